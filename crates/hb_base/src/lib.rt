@@ -1,0 +1,18 @@
+//! The plain types that every other crate speaks of: lists, texts, places, ports and the lines of a run.
+#![tactic(auto)]
+
+mod list;
+mod memory;
+mod place;
+mod port;
+mod script;
+mod step;
+mod text;
+
+pub use list::List;
+pub use memory::Memory;
+pub use place::Place;
+pub use port::{Dir, Port};
+pub use script::{Script, ScriptLine};
+pub use step::{Step, Stop};
+pub use text::Text;

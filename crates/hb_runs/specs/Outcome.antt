@@ -1,0 +1,31 @@
+-- What a run has shown so far, and how what it shows may grow from one count to the next.
+use Rattle.std.specs.Prelude.{◌≡◌, ℕ, suc, ◌≤◌, List, [], ◌∷◌, ◌++◌, Option, Some, None}
+
+-- the events so far, and the end, or none while the run is going
+pub record Outcome (E S : Type 0) : Type 0 where
+  pub trace : List E
+  pub end : Option S
+
+-- nothing shown yet
+abbrev pub nothing_yet : {E S : Type 0} → Outcome E S
+nothing_yet = record { trace = []; end = None }
+
+-- one count more: nothing new, one event more, or the end. After an end there is nothing new
+pub data GrowsTo {E S : Type 0} : Outcome E S → Outcome E S → Type 0 where
+  Stays : (o : Outcome E S) → GrowsTo o o
+  Shows : (trace : List E) (event : E) → GrowsTo (record { trace = trace; end = None }) (record { trace = trace ++ event ∷ []; end = None })
+  Ends : (trace : List E) (end : S) → GrowsTo (record { trace = trace; end = None }) (record { trace = trace; end = Some end })
+
+-- a run by counts, from nothing on
+pub record Grows {E S : Type 0} (run : ℕ → Outcome E S) : Type 0 where
+  pub starts : run 0 ≡ nothing_yet
+  pub steps : (n : ℕ) → GrowsTo (run n) (run (suc n))
+
+-- whatever the one run shows after n counts, the other shows after some count that is no smaller
+pub record Follows {E S : Type 0} (source target : ℕ → Outcome E S) : Type 0 where
+  pub later : (n : ℕ) → (m : ℕ) × (n ≤ m) × (target m ≡ source n)
+
+-- each shows what the other shows
+pub record SameRuns {E S : Type 0} (source target : ℕ → Outcome E S) : Type 0 where
+  pub each_source_count : (n : ℕ) → (m : ℕ) × (target m ≡ source n)
+  pub each_target_count : (m : ℕ) → (n : ℕ) × (target m ≡ source n)

@@ -1,0 +1,2 @@
+//! The texts of a run: scripts of port inputs, which are read, and the lines of a trace, which are written.
+#![tactic(auto)]
