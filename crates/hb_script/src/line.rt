@@ -4,31 +4,8 @@ ghost use Rattle.hb_base.specs.Ports.{ArePorts, IsPort, IsWidth};
 ghost use Rattle.hb_script.specs.Lines;
 ghost use Rattle.hb_script.specs.Lines.{hex_byte, hex, event_line, line_at, line_of, IsEvent, IsShown};
 
+use crate::buffer::{ROOM, port_at, put, put_text};
 use hb_base::{List, Port, Step};
-
-/// The longest line of a run, and more: a buffer's size.
-const ROOM: usize = 128;
-
-pub(crate) fn put(buffer: &mut [u8; ROOM], at: usize, byte: u8) -> usize
-    requires { at < 128 }
-    ensures next { result ≡ at + 1 }
-    ensures text { take result buffer.new ≡ take at buffer.old ++ byte ∷ [] }
-{
-    buffer[at] = byte;
-    at + 1
-}
-
-pub(crate) fn put_text(buffer: &mut [u8; ROOM], at: usize, text: &[u8]) -> usize
-    requires { at + length text.now ≤ 128 }
-    ensures next { result ≡ at + length text.now }
-    ensures text { take result buffer.new ≡ take at buffer.old ++ text.now }
-{
-    let mut end = at;
-    for byte in text {
-        end = put(buffer, end, *byte);
-    }
-    end
-}
 
 fn hex_digit(digit: u8) -> u8
     requires { digit < 16 }
@@ -74,15 +51,6 @@ fn put_event(buffer: &mut [u8; ROOM], letter: u8, port: &Port, value: u32) -> us
     let end = put(buffer, end, b' ');
     let end = put_hex(buffer, end, port.width, value);
     put(buffer, end, b'\n')
-}
-
-fn port_at(ports: &List<Port>, number: u32) -> &Port
-    requires ports { ArePorts ports.now }
-    requires there { number < length ports.now }
-    ensures item { slice_get ports.now number ≡ Some result.now }
-    ensures rules { IsPort result.now }
-{
-    &ports.as_slice()[number as usize]
 }
 
 fn put_line(buffer: &mut [u8; ROOM], letter: u8, ports: &List<Port>, port: u32, value: u32) -> usize
