@@ -2,8 +2,11 @@
 #![tactic(auto)]
 
 mod buffer;
+mod content;
 mod end;
 mod line;
+mod value;
+mod words;
 
 pub use end::end_text;
 pub use line::line_text;
