@@ -1,7 +1,7 @@
 -- A text is its first line and the lines after it, and a line its first word and the words after it.
-use Rattle.std.proofs.Common.{◌≡◌, ℕ, zero, suc, ◌+◌, ◌<◌, ◌≤◌, Bool, true, false, cond, eqb, ltb, List, [], ◌∷◌, length, take, drop, get_or, Option, Some, None, not, refl, sym, ap, ◌∙◌, arith}
+use Rattle.std.proofs.Common.{◌≡◌, ℕ, suc, ◌+◌, ◌<◌, ◌≤◌, Bool, true, false, cond, eqb, ltb, List, [], ◌∷◌, length, take, drop, get_or, Option, Some, None, not, refl, sym, ap, ◌∙◌, arith}
 use Rattle.std.specs.Prelude.{position, filter}
-use Rattle.std.specs.List.{All, onto_first, slice_split, position_or_len, before_first, after_first}
+use Rattle.std.specs.List.{All, onto_first, slice_split, position_or_len}
 use Rattle.std.specs.Str.Lines.{lines, lines_of_parts, strip_carriage_return}
 use Rattle.std.proofs.lemmas.Bool.{ltb-true, ltb-false, lt-ltb, ne_eqb, cond-true, cond-false}
 use Rattle.std.proofs.lemmas.List.{drop_all, drop_more, length-take}
@@ -106,9 +106,10 @@ opposite false e = refl
 pub word_begins : (line : List ℕ) (n : ℕ) → position is_no_blank line ≡ Some n → (words line ≡ words (drop n line)) × BeginsWord (drop n line)
 word_begins line n e =
     let h = found_at is_no_blank line n e in
-    let passes : is_no_blank (get_or line n 0) ≡ true = rw h.1 at (passes_at_first is_no_blank line 0 (omega (arith, h.0, h.1))) in
-    (sym (blanks_skipped line) ∙ ap (λ (k : ℕ). words (drop k line)) h.1,
-     record { first = get_or line n 0; others = drop (n + 1) line; is = drop_more line n 0 h.0; plain = opposite (is_blank (get_or line n 0)) passes })
+    let passes : is_no_blank (get_or line n 0) ≡ true = rw h.1 at (passes_at_first is_no_blank line 0 (omega (arith, h.0, h.1))) in (
+      sym (blanks_skipped line) ∙ ap (λ (k : ℕ). words (drop k line)) h.1,
+      record { first = get_or line n 0; others = drop (n + 1) line; is = drop_more line n 0 h.0; plain = opposite (is_blank (get_or line n 0)) passes },
+    )
 
 begins_long : (line : List ℕ) → BeginsWord line → 0 < length line
 begins_long line begins = rw begins.is (omega arith)

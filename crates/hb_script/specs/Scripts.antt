@@ -1,5 +1,5 @@
 -- Scripts: the inputs of a run, a line each.
-use Rattle.std.specs.Prelude.{ℕ, ◌+◌, ◌*◌, ◌^◌, Bool, true, false, ◌==◌, ◌&&◌, ◌||◌, not, nat_lt, if◌then◌else◌, List, [], ◌∷◌, length, filter, position, slice_get, Result, Ok, Err}
+use Rattle.std.specs.Prelude.{ℕ, ◌≡◌, ◌+◌, ◌*◌, ◌^◌, Bool, true, false, ◌==◌, ◌&&◌, ◌||◌, not, nat_lt, if◌then◌else◌, List, [], ◌∷◌, length, filter, position, slice_get, Result, Ok, Err}
 use Rattle.std.specs.Char.{is_digit}
 use Rattle.std.specs.List.{slice_split, list_all}
 use Rattle.std.specs.Option.{option_map_or}
@@ -10,8 +10,11 @@ use Rattle.hb_base.specs.declared.port.Dir.{Dir}
 use Rattle.hb_base.specs.declared.port.Dir.TheVariants.{In, Out}
 use Rattle.hb_base.specs.declared.port.Port.{Port}
 use Rattle.hb_base.specs.declared.script.ScriptLine.{ScriptLine}
+use Rattle.hb_base.specs.declared.script.Script.{Script}
 use Rattle.hb_script.specs.declared.content.Content.{Content}
 use Rattle.hb_script.specs.declared.content.Content.TheVariants.{Nothing, Input, Wrong}
+use Rattle.hb_script.specs.declared.fault.ScriptError.{ScriptError}
+use Rattle.hb_script.specs.declared.fault.ScriptError.TheVariants.{Bad, Memory}
 
 -- a longer script is refused as a whole
 abbrev pub most_bytes : ℕ
@@ -90,3 +93,13 @@ inputs_from ports number (line ∷ lines) = joined (content_of ports line) numbe
 -- the inputs that the bytes spell, or the number of the first wrong line, from 1, or 0 where the script is too long
 unfoldable pub script_of : List Port → List ℕ → Result (List ScriptLine) ℕ
 script_of ports bytes = if nat_lt most_bytes (length bytes) then Err 0 else inputs_from ports 1 (lines bytes)
+
+-- the error of a script whose reading gives this number, unless memory ran out
+abbrev pub IsFault : Result (List ScriptLine) ℕ → ScriptError → Type 0
+IsFault reading (Bad number) = reading ≡ Err number
+IsFault reading Memory = Unit {0}
+
+-- what was read is what the reading gives, unless memory ran out
+abbrev pub Gives : Result Script ScriptError → Result (List ScriptLine) ℕ → Type 0
+Gives (Ok script) reading = reading ≡ Ok script.lines
+Gives (Err error) reading = IsFault reading error

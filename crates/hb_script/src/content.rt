@@ -21,10 +21,8 @@ pub enum Content {
 fn port_named(ports: &List<Port>, name: &[u8]) -> Option<usize>
     ensures { result ≡ position (is_input_named name.now) ports.now }
 {
-    ports
-        .as_slice()
-        .iter()
-        .position(|port| matches!(port.dir, Dir::In) && port.name.as_slice() == name)
+    ports.as_slice().iter().position(|port| matches!(port.dir, Dir::In)
+        && port.name.as_slice() == name)
 }
 
 #[tactic(auto, unfolding(crate::specs::Scripts::input_at))]

@@ -1,6 +1,5 @@
-use Rattle.std.proofs.Common.{◌≡◌, ◌+◌, ap, sym, ◌∙◌}
+use Rattle.std.proofs.Common.{◌+◌, sym}
 use Rattle.std.proofs.lemmas.List.{take_rest}
-use Rattle.std.specs.Str.Lines.{lines}
 use Rattle.hb_script.proofs.WordLemmas.{line_ends, last_line}
 use Rattle.hb_script.proofs.words.first_line.Goals as goal
 

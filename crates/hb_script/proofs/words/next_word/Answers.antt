@@ -1,4 +1,4 @@
-use Rattle.std.proofs.Common.{◌≡◌, ◌-◌, take, drop, length, ap, sym, ◌∙◌}
+use Rattle.std.proofs.Common.{drop, sym, ◌∙◌}
 use Rattle.std.proofs.lemmas.List.{take_rest}
 use Rattle.hb_script.proofs.WordLemmas.{no_word, word_begins, one_word, word_ends}
 use Rattle.hb_script.proofs.words.next_word.Goals as goal
