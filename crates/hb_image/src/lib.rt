@@ -4,6 +4,7 @@
 mod fault;
 mod fields;
 mod image;
+mod names;
 mod writing;
 
 pub use fault::{Field, ImageError};
