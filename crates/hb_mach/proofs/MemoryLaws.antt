@@ -1,0 +1,1 @@
+-- a store changes the memory exactly at its addresses
