@@ -69,7 +69,7 @@ turns-loading_memory None op rd address s e = turns-loading_port (position (is_r
 turns-loading : (op : LoadOp) (rd address : ℕ) (s : State) → s.ended ≡ None → Turns s (loading op rd address s)
 unfolding loading
 turns-loading op rd address s e =
-  either s (address % load_size op == 0) _ _ (turns-loading_memory (load s.memory address (load_size op)) op rd address s e) (turns-ending Misaligned s e)
+    either s (address % load_size op == 0) _ _ (turns-loading_memory (load s.memory address (load_size op)) op rd address s e) (turns-ending Misaligned s e)
 
 turns-storing_port : (port : Option ℕ) (word : ℕ) (s : State) → s.ended ≡ None → Turns s (storing_port port word s)
 unfolding storing_port
@@ -84,7 +84,7 @@ turns-storing_memory None op address word s e = turns-storing_port (position (is
 turns-storing : (op : StoreOp) (address word : ℕ) (s : State) → s.ended ≡ None → Turns s (storing op address word s)
 unfolding storing
 turns-storing op address word s e =
-  either s (address % store_size op == 0) _ _ (turns-storing_memory (store s.memory address (store_size op) word) op address word s e) (turns-ending Misaligned s e)
+    either s (address % store_size op == 0) _ _ (turns-storing_memory (store s.memory address (store_size op) word) op address word s e) (turns-ending Misaligned s e)
 
 turns-execute : (instr : Instr) (s : State) → s.ended ≡ None → Turns s (execute instr s)
 unfolding execute
@@ -154,8 +154,8 @@ grown trace _ _ _ (Over stop) = rw append-nil (Stays _)
 pub shown-suc : (s : State) (n : ℕ) → GrowsTo (shown s n) (shown s (suc n))
 unfolding shown
 shown-suc s n =
-  let now = after table n s in
-  rw (answers-suc n s, after-suc n s, events-append (answers table n s) ((table now).1 ∷ []))
+    let now = after table n s in
+    rw (answers-suc n s, after-suc n s, events-append (answers table n s) ((table now).1 ∷ []))
     (grown (events (answers table n s)) now.ended (table now).0.ended (table now).1 (turns now))
 
 pub mach-grows : (image : Image) (lines : List ScriptLine) → Grows (mach image lines)

@@ -25,7 +25,7 @@ beside_stack = 1024
 unfoldable pub zeroed : ℕ → ℕ → Memory
 zeroed areas stack = record {
   areas = record { base = areas_base; bytes = replicate areas 0 };
-  stack = record { base = stack_end - (stack + beside_stack); bytes = replicate (stack + beside_stack) 0 }
+  stack = record { base = stack_end - (stack + beside_stack); bytes = replicate (stack + beside_stack) 0 };
 }
 
 -- one past the last address
@@ -38,7 +38,7 @@ byte_in region address = if nat_le region.base address then slice_get region.byt
 
 unfoldable pub byte_at : Memory → ℕ → Option ℕ
 byte_at memory address =
-  if is_some (byte_in memory.areas address) then byte_in memory.areas address else byte_in memory.stack address
+    if is_some (byte_in memory.areas address) then byte_in memory.areas address else byte_in memory.stack address
 
 -- all bytes of an access stand in the region
 abbrev pub is_within : Region → ℕ → ℕ → Bool
@@ -63,14 +63,19 @@ put_in region address size number = record region { bytes = put_number region.by
 -- an access lies wholly in one region, or there is none
 unfoldable pub load : Memory → ℕ → ℕ → Option ℕ
 load memory address size =
-  if is_within memory.areas address size then Some (number_in memory.areas address size)
-  else (if is_within memory.stack address size then Some (number_in memory.stack address size) else None)
+    if is_within memory.areas address size then Some (number_in memory.areas address size)
+    else (if is_within memory.stack address size then Some (number_in memory.stack address size) else None)
 
 unfoldable pub store : Memory → ℕ → ℕ → ℕ → Option Memory
 store memory address size number =
-  if is_within memory.areas address size then Some (record memory { areas = put_in memory.areas address size number })
-  else (if is_within memory.stack address size then Some (record memory { stack = put_in memory.stack address size number }) else None)
+    if is_within memory.areas address size then Some (record memory { areas = put_in memory.areas address size number })
+    else (if is_within memory.stack address size then Some (record memory { stack = put_in memory.stack address size number }) else None)
 
 -- no address belongs to both regions
 pub record AreApart (memory : Memory) : Type 0 where
   pub apart : end_of memory.areas ≤ memory.stack.base
+
+-- the byte at this place of a number, the lowest first
+unfoldable pub byte_of : ℕ → ℕ → ℕ
+byte_of number zero = number % 256
+byte_of number (suc place) = byte_of (number / 256) place

@@ -30,7 +30,7 @@ start image lines = record {
   memory = zeroed image.areas image.stack;
   lines = lines;
   ended = None;
-  done = 0
+  done = 0;
 }
 
 -- x0 reads 0, and what is written to it is lost

@@ -83,7 +83,7 @@ is_written_at address size port = is_out port.dir && is_met_at address size port
 unfoldable pub reading : Option ℕ → ℕ → LoadOp → ℕ → State → State × Step
 reading None port op rd s = ending (InputEnd port) s
 reading (Some value) port op rd s =
-  (goes_on (with_register rd (extended op value) (record s { lines = without_first port s.lines })), Read port value)
+    (goes_on (with_register rd (extended op value) (record s { lines = without_first port s.lines })), Read port value)
 
 unfoldable pub loading_port : Option ℕ → LoadOp → ℕ → State → State × Step
 loading_port None op rd s = ending Unmapped s
@@ -95,8 +95,8 @@ loading_memory None op rd address s = loading_port (position (is_read_at address
 
 unfoldable pub loading : LoadOp → ℕ → ℕ → State → State × Step
 loading op rd address s =
-  if address % load_size op == 0 then loading_memory (load s.memory address (load_size op)) op rd address s
-  else ending Misaligned s
+    if address % load_size op == 0 then loading_memory (load s.memory address (load_size op)) op rd address s
+    else ending Misaligned s
 
 -- ---- stores
 
@@ -110,15 +110,15 @@ storing_memory None op address word s = storing_port (position (is_written_at ad
 
 unfoldable pub storing : StoreOp → ℕ → ℕ → State → State × Step
 storing op address word s =
-  if address % store_size op == 0 then storing_memory (store s.memory address (store_size op) word) op address word s
-  else ending Misaligned s
+    if address % store_size op == 0 then storing_memory (store s.memory address (store_size op) word) op address word s
+    else ending Misaligned s
 
 -- ---- environment calls
 
 -- x17 says which end: 0 is Done, 1 is Halt with x10, 2 is Stack
 abbrev pub called : ℕ → ℕ → Stop
 called number argument =
-  if number == 0 then Done else (if number == 1 then Halt argument else (if number == 2 then Stack else Illegal))
+    if number == 0 then Done else (if number == 1 then Halt argument else (if number == 2 then Stack else Illegal))
 
 -- ---- the table
 
