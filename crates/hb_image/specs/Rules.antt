@@ -1,5 +1,5 @@
 -- The rules that the fields of an image keep.
-use Rattle.std.specs.Prelude.{◌≡◌, ℕ, ◌%◌, ◌^◌, ◌<◌, ◌≤◌, List, length}
+use Rattle.std.specs.Prelude.{◌≡◌, ℕ, ◌%◌, ◌≤◌, length}
 use Rattle.hb_base.specs.Ports.{ArePorts}
 use Rattle.hb_image.specs.declared.image.Image.{Image}
 

@@ -2,5 +2,7 @@
 #![tactic(auto)]
 
 mod image;
+mod writing;
 
 pub use image::Image;
+pub use writing::write;
