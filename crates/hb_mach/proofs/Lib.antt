@@ -1,2 +1,3 @@
+pub mod LittleLaws
 pub mod MemoryLaws
 pub mod RunLaws

@@ -12,12 +12,11 @@ use Rattle.hb_base.specs.declared.step.Stop.TheVariants.{Misaligned, Unmapped, I
 use Rattle.hb_image.specs.declared.image.Image.{Image}
 use Rattle.hb_runs.specs.Outcome.{Outcome, nothing_yet, GrowsTo, Stays, Shows, Ends, Grows}
 use Rattle.hb_runs.specs.Stepping.{after, answers}
-use Rattle.hb_mach.specs.Coding.{decode_of}
 use Rattle.hb_mach.specs.Arithmetic.{load_size, store_size, is_taken, extended, low_part}
 use Rattle.hb_mach.specs.Lines.{first_value}
 use Rattle.hb_mach.specs.Memory.{Memory, load, store}
 use Rattle.hb_mach.specs.State.{State, start, register}
-use Rattle.hb_mach.specs.Table.{table, running, fetched, decoded, execute, computed, branching, jumping, loading, loading_memory, loading_port, reading, storing, storing_memory, storing_port, ending, called, from_here, sum_with, even, is_read_at, is_written_at, word_at_pc}
+use Rattle.hb_mach.specs.Table.{table, running, fetched, execute, computed, branching, jumping, loading, loading_memory, loading_port, reading, storing, storing_memory, storing_port, ending, called, from_here, sum_with, even, is_read_at, is_written_at, instruction_at_pc}
 use Rattle.hb_mach.specs.Run.{events, is_event, shown, mach}
 
 -- the end before a step, the end after it, and what it answers
@@ -101,20 +100,16 @@ turns-execute (Fence high rd) s e = rw e Quiet
 turns-execute Ecall s e = turns-ending _ s e
 turns-execute Ebreak s e = turns-ending Break s e
 
-turns-decoded : (instr : Option Instr) (s : State) → s.ended ≡ None → Turns s (decoded instr s)
-unfolding decoded
-turns-decoded None s e = turns-ending Illegal s e
-turns-decoded (Some instr) s e = turns-execute instr s e
-
-turns-fetched : (word : Option ℕ) (s : State) → s.ended ≡ None → Turns s (fetched word s)
+turns-fetched : (fetch : Option (Option Instr)) (s : State) → s.ended ≡ None → Turns s (fetched fetch s)
 unfolding fetched
 turns-fetched None s e = turns-ending Unmapped s e
-turns-fetched (Some word) s e = turns-decoded (decode_of word) s e
+turns-fetched (Some None) s e = turns-ending Illegal s e
+turns-fetched (Some (Some instr)) s e = turns-execute instr s e
 
 turns-running : (ended : Option Stop) (s : State) → s.ended ≡ ended → Turns s (running ended s)
 unfolding running
 turns-running (Some stop) s e = rw e (Over stop)
-turns-running None s e = turns-fetched (word_at_pc s) s e
+turns-running None s e = turns-fetched (instruction_at_pc s) s e
 
 -- what one step of the table can do
 pub turns : (s : State) → Turns s (table s)

@@ -1,5 +1,5 @@
 -- The machine's table, after the RISC-V unprivileged ISA: what one step of RV32I does to the state, and what it shows.
-use Rattle.std.specs.Prelude.{ℕ, ◌+◌, ◌-◌, ◌*◌, ◌/◌, ◌%◌, ◌^◌, min, Bool, true, false, ◌&&◌, ◌==◌, nat_le, if◌then◌else◌, List, slice_get, Option, Some, None, position, ℤ}
+use Rattle.std.specs.Prelude.{ℕ, ◌+◌, ◌-◌, ◌*◌, ◌/◌, ◌%◌, ◌^◌, min, Bool, true, false, ◌&&◌, ◌==◌, nat_le, if◌then◌else◌, List, slice_get, Option, Some, None, position, option_map, ℤ}
 use Rattle.hb_asm.specs.declared.instr.Instr.{Instr}
 use Rattle.hb_asm.specs.declared.instr.Instr.TheVariants.{Lui, Auipc, Jal, Jalr, Branch, Load, Store, OpImm, Op, Fence, Ecall, Ebreak}
 use Rattle.hb_asm.specs.declared.instr.AluOp.{AluOp}
@@ -149,18 +149,19 @@ execute Ebreak s = ending Break s
 abbrev pub word_at_pc : State → Option ℕ
 word_at_pc s = if nat_le code_base s.pc then slice_get s.code ((s.pc - code_base) / 4) else None
 
-unfoldable pub decoded : Option Instr → State → State × Step
-decoded None s = ending Illegal s
-decoded (Some instr) s = execute instr s
+-- the instruction there. Some None where the word codes none
+abbrev pub instruction_at_pc : State → Option (Option Instr)
+instruction_at_pc s = option_map decode_of (word_at_pc s)
 
-unfoldable pub fetched : Option ℕ → State → State × Step
+unfoldable pub fetched : Option (Option Instr) → State → State × Step
 fetched None s = ending Unmapped s
-fetched (Some word) s = decoded (decode_of word) s
+fetched (Some None) s = ending Illegal s
+fetched (Some (Some instr)) s = execute instr s
 
 -- after an end each step answers that end, and changes nothing
 unfoldable pub running : Option Stop → State → State × Step
 running (Some stop) s = (s, Ended stop)
-running None s = fetched (word_at_pc s) s
+running None s = fetched (instruction_at_pc s) s
 
 -- one step of the machine
 unfoldable pub table : State → State × Step
