@@ -1,0 +1,2 @@
+pub mod FakeShelfLemmas
+pub mod StoredFilesLemmas
