@@ -89,6 +89,15 @@ within-bounds r address size h =
     let parts = and_parts (nat_le r.base address) (nat_le (address + size) (end_of r)) h in
     (leb-true _ _ parts.0, leb-true _ _ parts.1)
 
+-- the same in parts, for the search
+pub within-low : (r : Region) (address size : ℕ) → is_within r address size ≡ true → r.base ≤ address
+within-low r address size h = (within-bounds r address size h).0
+
+pub within-high : (r : Region) (address size : ℕ) → is_within r address size ≡ true → address + size ≤ end_of r
+within-high r address size h = (within-bounds r address size h).1
+
+pub ruleset bounds = (within-low, within-high)
+
 pub byte_in-below : (r : Region) (address : ℕ) → address < r.base → byte_in r address ≡ None
 byte_in-below r address h = let low : nat_le r.base address ≡ false = lt-leb _ _ h in rw low refl
 

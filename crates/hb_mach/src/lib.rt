@@ -8,10 +8,11 @@ mod coding;
 
 
 mod little;
+mod ram;
 mod region;
 mod registers;
 
 pub use arithmetic::{alu, is_taken, is_load_aligned, is_store_aligned, bytes_loaded, bytes_stored, extended, low_part};
 pub use coding::decode;
-pub use region::Region;
+pub use ram::Ram;
 pub use registers::Registers;
