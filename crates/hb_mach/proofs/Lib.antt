@@ -1,3 +1,4 @@
 pub mod LittleLaws
 pub mod MemoryLaws
 pub mod RunLaws
+pub mod WaitingLaws

@@ -1,7 +1,8 @@
 pub mod Arithmetic
-pub mod Memory
+pub mod Coding
 pub mod Lines
+pub mod Memory
+pub mod Run
 pub mod State
 pub mod Table
-pub mod Coding
-pub mod Run
+pub mod Waiting

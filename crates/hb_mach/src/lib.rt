@@ -7,6 +7,7 @@ mod coding;
 
 
 
+mod inputs;
 mod little;
 mod ram;
 mod region;
@@ -14,5 +15,6 @@ mod registers;
 
 pub use arithmetic::{alu, is_taken, is_load_aligned, is_store_aligned, bytes_loaded, bytes_stored, extended, low_part};
 pub use coding::decode;
+pub use inputs::Inputs;
 pub use ram::Ram;
 pub use registers::Registers;
