@@ -6,3 +6,4 @@ pub mod Run
 pub mod State
 pub mod Table
 pub mod Waiting
+pub mod Soundness
