@@ -1,0 +1,4 @@
+pub mod Bits
+pub mod Formats
+pub mod InRange
+pub mod Coding

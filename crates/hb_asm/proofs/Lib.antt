@@ -1,0 +1,4 @@
+mod FieldLemmas
+mod InstrBack
+mod WordReads
+pub mod Coding
