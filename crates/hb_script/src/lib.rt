@@ -2,8 +2,15 @@
 #![tactic(auto)]
 
 mod buffer;
+mod content;
 mod end;
+mod fault;
 mod line;
+mod reading;
+mod value;
+mod words;
 
 pub use end::end_text;
+pub use fault::ScriptError;
 pub use line::line_text;
+pub use reading::read;
