@@ -1,5 +1,5 @@
 -- A sink in memory: what it holds, and what one put does to it.
-use Rattle.std.specs.Prelude.{ℕ, ◌+◌, ◌-◌, ◌/◌, ◌==◌, Bool, true, false, ◌||◌, not, nat_le, if◌then◌else◌, min, List, [], ◌++◌, length, take}
+use Rattle.std.specs.Prelude.{ℕ, ◌-◌, ◌/◌, ◌==◌, Bool, ◌||◌, not, nat_le, if◌then◌else◌, min, List, ◌++◌, length, take}
 use Rattle.std.specs.List.{list_any}
 use Rattle.hb_io.specs.Counts.{raised}
 

@@ -1,8 +1,10 @@
 pub mod Answers
 pub mod Counts
+pub mod CountsLaws
 pub mod FakeShelf
 pub mod FakeSink
 pub mod Files
 pub mod FilesLaws
 pub mod StoredFiles
 pub mod Taken
+pub mod TakenLaws

@@ -1,5 +1,5 @@
 -- The finite map that an ordered map from names to contents stands for.
-use Rattle.std.specs.Prelude.{ℕ, List, map, String, string_bytes, Vec}
+use Rattle.std.specs.Prelude.{ℕ, map, String, string_bytes, Vec}
 use Rattle.std.specs.declared.alloc.Global.{Global}
 use Rattle.std.specs.BTreeMap.{BTreeMap}
 use Rattle.std.specs.FinMap.{from_entries}

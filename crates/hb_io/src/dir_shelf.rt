@@ -1,4 +1,4 @@
-ghost use Rattle.std.specs.Prelude.{None};
+ghost use Rattle.std.specs.Prelude.{◌≡◌, None};
 
 use crate::shelf::{Shelf, ShelfError};
 use crate::transfer::{read_front, write_whole};
@@ -18,7 +18,10 @@ pub struct DirShelf<R: Files> {
 
 impl<R: Files> DirShelf<R> {
     /// A shelf over the files of this runtime.
-    pub fn new(rt: R) -> DirShelf<R> {
+    pub fn new(rt: R) -> DirShelf<R>
+        ensures read_faults { ⟦<DirShelf<R> as Shelf>⟧.read_faults result ≡ 0 }
+        ensures write_faults { ⟦<DirShelf<R> as Shelf>⟧.write_faults result ≡ 0 }
+    {
         DirShelf {
             rt,
             read_faults: 0,

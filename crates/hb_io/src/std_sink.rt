@@ -1,4 +1,4 @@
-ghost use Rattle.std.specs.Prelude.{None};
+ghost use Rattle.std.specs.Prelude.{◌≡◌, None};
 
 use crate::sink::{Failed, Sink};
 use crate::transfer::write_whole;
@@ -13,7 +13,9 @@ pub struct StdSink<R: Print> {
 
 impl<R: Print> StdSink<R> {
     /// A sink over the standard output of this runtime.
-    pub fn new(rt: R) -> StdSink<R> {
+    pub fn new(rt: R) -> StdSink<R>
+        ensures faults { ⟦<StdSink<R> as Sink>⟧.faults result ≡ 0 }
+    {
         StdSink { rt, faults: 0 }
     }
 }

@@ -1,4 +1,4 @@
-use Rattle.std.proofs.Common.{◌≡◌, ap, ◌∙◌, Some}
+use Rattle.std.proofs.Common.{ap, ◌∙◌, Some}
 use Rattle.std.specs.FinMap.{remove}
 use Rattle.hb_io.specs.FilesLaws.{remove-insert}
 use Rattle.hb_io.proofs.mem_shelf.MemShelfShelf.write.Goals as goal
