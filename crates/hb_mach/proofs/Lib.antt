@@ -1,0 +1,5 @@
+pub mod LittleLaws
+pub mod MemoryLaws
+pub mod PortLaws
+pub mod RunLaws
+pub mod WaitingLaws

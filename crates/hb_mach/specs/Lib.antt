@@ -1,0 +1,9 @@
+pub mod Arithmetic
+pub mod Coding
+pub mod Lines
+pub mod Memory
+pub mod Run
+pub mod State
+pub mod Table
+pub mod Waiting
+pub mod Soundness
