@@ -3,3 +3,4 @@ pub mod Tokens
 pub mod Scan
 pub mod Form
 pub mod Candidate
+pub mod Meaning
