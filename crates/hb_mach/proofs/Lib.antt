@@ -1,3 +1,4 @@
+pub mod FetchLaws
 pub mod LittleLaws
 pub mod MemoryLaws
 pub mod PortLaws

@@ -1,5 +1,4 @@
 pub mod Arithmetic
-pub mod Coding
 pub mod Lines
 pub mod Memory
 pub mod Run
