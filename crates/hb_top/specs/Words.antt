@@ -1,6 +1,7 @@
 -- How the words of the command line are read.
 use Rattle.std.specs.Prelude.{◌≡◌, ◌≢◌, ℕ, List, [], ◌∷◌, codes}
 use Rattle.std.specs.Str.{IsUtf8}
+use Rattle.hb_top.specs.declared.words.Names.{Names}
 
 -- run FILE SCRIPT IMAGE: the names of the files that hold the source and the script, and of the one for the image
 pub record Command : Type 0 where
@@ -23,3 +24,7 @@ pub record Reads (words : List (List ℕ)) (command : Command) : Type 0 where
   pub file : IsName command.file
   pub script : IsName command.script
   pub image : IsName command.image
+
+-- the command of these names
+abbrev pub named : Names → Command
+named names = record { file = names.file.now; script = names.script.now; image = names.image.now }

@@ -1,4 +1,6 @@
 //! The top call: the words of a command line are read and done, over any shelf of files and any sink of text.
 #![tactic(auto)]
 
+mod failure;
+mod refusal;
 mod words;

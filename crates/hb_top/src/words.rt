@@ -1,11 +1,10 @@
-ghost use Rattle.std.specs.Prelude.{◌≡◌, MatchOption, ¬◌};
-ghost use Rattle.hb_top.specs.Words;
-ghost use Rattle.hb_top.specs.Words.{IsName, Reads};
+ghost use Rattle.std.specs.Prelude.{◌≡◌, ◌↔◌, IsTrue, MatchOption, codes};
+ghost use Rattle.hb_top.specs.Words.{Command, IsName, Reads, named};
 
 use hb_base::{List, Text};
 use std::str;
 
-/// The files of a run.
+/// The names of the files of a run.
 #[derive(Drop)]
 pub struct Names<'a> {
     pub file: &'a str,
@@ -22,4 +21,27 @@ fn name_of(word: &Text) -> Option<&str>
         return None;
     }
     str::from_utf8(bytes).ok()
+}
+
+fn is_run(word: &Text) -> bool
+    ensures { IsTrue result ↔ (word.now ≡ codes "run") }
+{
+    word.as_slice() == b"run".as_slice()
+}
+
+/// The names of the three files, where the words are a command.
+pub fn read_words(words: &List<Text>) -> Option<Names<'_>>
+    ensures { MatchOption result ((command : Command) → Reads words.now command → ⊥) (λ names. Reads words.now (named names)) }
+{
+    let [run, file, script, image] = words.as_slice() else {
+        return None;
+    };
+    if !is_run(run) {
+        return None;
+    }
+    Some(Names {
+        file: name_of(file)?,
+        script: name_of(script)?,
+        image: name_of(image)?,
+    })
 }

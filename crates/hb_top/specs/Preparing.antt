@@ -1,0 +1,95 @@
+-- What comes before a run: the words, the source, the script, and the image that is written. Only files are touched.
+use Rattle.std.specs.Prelude.{◌≡◌, ◌≢◌, ℕ, List, [], Option, Result, Ok, Err}
+use Rattle.hb_base.specs.declared.script.ScriptLine.{ScriptLine}
+use Rattle.hb_image.specs.declared.image.Image.{Image}
+use Rattle.hb_image.specs.Format.{spelling}
+use Rattle.hb_io.specs.Counts.{Rose}
+use Rattle.hb_io.specs.Files.{Files, written, without, HoldsFront}
+use Rattle.hb_first.specs.declared.source.Source.{Source}
+use Rattle.hb_mach.specs.State.{State, start}
+use Rattle.hb_top.specs.declared.refusal.Refusal.{Refusal}
+use Rattle.hb_top.specs.declared.failure.Failure.{Failure}
+use Rattle.hb_top.specs.declared.failure.Failure.TheVariants.{Words, Refused, Script, Read, Write, Memory}
+use Rattle.hb_top.specs.Words.{Command, Reads}
+use Rattle.hb_top.specs.Sources.{Accepts, Refuses, Means}
+use Rattle.hb_top.specs.World.{Shelved}
+
+-- as much of a file is read
+abbrev pub most_read : ℕ
+most_read = 1048577
+
+-- these bytes were read from the file of this name, whole or as far as is read
+abbrev pub Got : Shelved → List ℕ → List ℕ → Type 0
+Got old name bytes = HoldsFront old.files name most_read bytes
+
+-- a source that was read and accepted
+pub record TakesSource (words : List (List ℕ)) (old : Shelved) (command : Command) (source : Source) : Type 0 where
+  pub reads : Reads words command
+  pub bytes : List ℕ
+  pub got : Got old command.file bytes
+  pub accepted : Accepts bytes source
+
+-- and a script without a line, and an image that means the source
+pub record Compiles (words : List (List ℕ)) (old : Shelved) (command : Command) (image : Image) : Type 0 where
+  pub source : Source
+  pub takes : TakesSource words old command source
+  pub script : Got old command.script []
+  pub means : Means source image
+
+-- the image was written, and the machine stands at its start
+pub record Loads (words : List (List ℕ)) (old new : Shelved) (state : State) : Type 0 where
+  pub command : Command
+  pub image : Image
+  pub compiles : Compiles words old command image
+  pub loaded : state ≡ start image []
+  pub wrote : new ≡ record old { files = written old.files command.image (spelling image) }
+
+pub record RefusesSource (words : List (List ℕ)) (old : Shelved) (refusal : Refusal) : Type 0 where
+  pub command : Command
+  pub reads : Reads words command
+  pub bytes : List ℕ
+  pub got : Got old command.file bytes
+  pub refused : Refuses bytes refusal
+
+-- a script of one byte or more
+pub record RefusesScript (words : List (List ℕ)) (old : Shelved) : Type 0 where
+  pub command : Command
+  pub source : Source
+  pub takes : TakesSource words old command source
+  pub script : List ℕ
+  pub got : Got old command.script script
+  pub refused : script ≢ []
+
+abbrev pub RefusesWords : List (List ℕ) → Type 0
+RefusesWords words = (command : Command) → ¬ Reads words command
+
+-- a file could not be read
+pub record FailsToRead (words : List (List ℕ)) (old new : Shelved) : Type 0 where
+  pub command : Command
+  pub reads : Reads words command
+  pub files : new.files ≡ old.files
+  pub fault : Rose old.read_faults new.read_faults
+  pub no_write : new.write_faults ≡ old.write_faults
+
+-- the image could not be written: nothing is told of its file, and every other one is as before
+pub record FailsToWrite (words : List (List ℕ)) (old new : Shelved) : Type 0 where
+  pub command : Command
+  pub image : Image
+  pub compiles : Compiles words old command image
+  pub others : without new.files command.image ≡ without old.files command.image
+  pub fault : Rose old.write_faults new.write_faults
+  pub no_read : new.read_faults ≡ old.read_faults
+
+-- there was no memory for a command
+pub record WantsMemory (words : List (List ℕ)) (old new : Shelved) : Type 0 where
+  pub command : Command
+  pub reads : Reads words command
+  pub untouched : new ≡ old
+
+abbrev pub FailsBy : List (List ℕ) → Shelved → Shelved → Failure → Type 0
+FailsBy words old new Words = RefusesWords words × (new ≡ old)
+FailsBy words old new (Refused refusal) = RefusesSource words old refusal × (new ≡ old)
+FailsBy words old new Script = RefusesScript words old × (new ≡ old)
+FailsBy words old new Read = FailsToRead words old new
+FailsBy words old new Write = FailsToWrite words old new
+FailsBy words old new Memory = WantsMemory words old new
