@@ -1,6 +1,8 @@
 -- What comes before a run: the words, the source, the script, and the image that is written. Only files are touched.
-use Rattle.std.specs.Prelude.{◌≡◌, ◌≢◌, ℕ, List, [], Option, Result, Ok, Err}
+use Rattle.std.specs.Prelude.{◌≡◌, ◌≢◌, ℕ, List, [], Option, Result, Ok, Err, Vec}
+use Rattle.std.specs.declared.alloc.Global.{Global}
 use Rattle.hb_base.specs.declared.script.ScriptLine.{ScriptLine}
+use Rattle.hb_base.specs.declared.step.Stop.TheVariants.{Done}
 use Rattle.hb_image.specs.declared.image.Image.{Image}
 use Rattle.hb_image.specs.Format.{spelling}
 use Rattle.hb_io.specs.Counts.{Rose}
@@ -12,6 +14,7 @@ use Rattle.hb_top.specs.declared.failure.Failure.{Failure}
 use Rattle.hb_top.specs.declared.failure.Failure.TheVariants.{Words, Refused, Script, Read, Write, Memory}
 use Rattle.hb_top.specs.Words.{Command, Reads}
 use Rattle.hb_top.specs.Sources.{Accepts, Refuses, Means}
+use Rattle.hb_top.specs.Texts.{stop_after, standard_steps}
 use Rattle.hb_top.specs.World.{Shelved}
 
 -- as much of a file is read
@@ -42,6 +45,7 @@ pub record Loads (words : List (List ℕ)) (old new : Shelved) (state : State) :
   pub image : Image
   pub compiles : Compiles words old command image
   pub loaded : state ≡ start image []
+  pub ends : stop_after state standard_steps ≡ Done
   pub wrote : new ≡ record old { files = written old.files command.image (spelling image) }
 
 pub record RefusesSource (words : List (List ℕ)) (old : Shelved) (refusal : Refusal) : Type 0 where
@@ -63,22 +67,38 @@ pub record RefusesScript (words : List (List ℕ)) (old : Shelved) : Type 0 wher
 abbrev pub RefusesWords : List (List ℕ) → Type 0
 RefusesWords words = (command : Command) → ¬ Reads words command
 
--- a file could not be read
-pub record FailsToRead (words : List (List ℕ)) (old new : Shelved) : Type 0 where
-  pub command : Command
-  pub reads : Reads words command
+-- a file could not be read, and no file was changed
+pub record ReadFault (old new : Shelved) : Type 0 where
   pub files : new.files ≡ old.files
   pub fault : Rose old.read_faults new.read_faults
   pub no_write : new.write_faults ≡ old.write_faults
 
--- the image could not be written: nothing is told of its file, and every other one is as before
+pub record FailsToRead (words : List (List ℕ)) (old new : Shelved) : Type 0 where
+  pub command : Command
+  pub reads : Reads words command
+  pub faulted : ReadFault old new
+
+-- the file of this name could not be written: nothing is told of it, and every other one is as before
+pub record WriteFault (old new : Shelved) (name : List ℕ) : Type 0 where
+  pub others : without new.files name ≡ without old.files name
+  pub fault : Rose old.write_faults new.write_faults
+  pub no_read : new.read_faults ≡ old.read_faults
+
 pub record FailsToWrite (words : List (List ℕ)) (old new : Shelved) : Type 0 where
   pub command : Command
   pub image : Image
   pub compiles : Compiles words old command image
-  pub others : without new.files command.image ≡ without old.files command.image
-  pub fault : Rose old.write_faults new.write_faults
-  pub no_read : new.read_faults ≡ old.read_faults
+  pub faulted : WriteFault old new command.image
+
+-- what reading a file may answer
+abbrev pub ReadsFile : Shelved → Shelved → List ℕ → Result (Vec ℕ Global) Failure → Type 0
+ReadsFile old new name (Ok bytes) = Got old name bytes.items × (new ≡ old)
+ReadsFile old new name (Err Words) = ⊥
+ReadsFile old new name (Err (Refused refusal)) = ⊥
+ReadsFile old new name (Err Script) = ⊥
+ReadsFile old new name (Err Read) = ReadFault old new
+ReadsFile old new name (Err Write) = ⊥
+ReadsFile old new name (Err Memory) = new ≡ old
 
 -- there was no memory for a command
 pub record WantsMemory (words : List (List ℕ)) (old new : Shelved) : Type 0 where
@@ -93,3 +113,32 @@ FailsBy words old new Script = RefusesScript words old × (new ≡ old)
 FailsBy words old new Read = FailsToRead words old new
 FailsBy words old new Write = FailsToWrite words old new
 FailsBy words old new Memory = WantsMemory words old new
+
+-- what becomes of bytes as a source
+abbrev pub Judges : List ℕ → Result Source Failure → Type 0
+Judges bytes (Ok source) = Accepts bytes source
+Judges bytes (Err Words) = ⊥
+Judges bytes (Err (Refused refusal)) = Refuses bytes refusal
+Judges bytes (Err Script) = ⊥
+Judges bytes (Err Read) = ⊥
+Judges bytes (Err Write) = ⊥
+Judges bytes (Err Memory) = Unit {0}
+
+-- the image under this name, and the machine at its start
+pub record Stored (old new : Shelved) (name : List ℕ) (image : Image) (state : State) : Type 0 where
+  pub loaded : state ≡ start image []
+  pub wrote : new ≡ record old { files = written old.files name (spelling image) }
+
+abbrev pub StoresImage : Shelved → Shelved → List ℕ → Image → Result State Failure → Type 0
+StoresImage old new name image (Ok state) = Stored old new name image state
+StoresImage old new name image (Err Words) = ⊥
+StoresImage old new name image (Err (Refused refusal)) = ⊥
+StoresImage old new name image (Err Script) = ⊥
+StoresImage old new name image (Err Read) = ⊥
+StoresImage old new name image (Err Write) = WriteFault old new name
+StoresImage old new name image (Err Memory) = new ≡ old
+
+-- what comes before a run
+abbrev pub Prepares : List (List ℕ) → Shelved → Shelved → Result State Failure → Type 0
+Prepares words old new (Ok state) = Loads words old new state
+Prepares words old new (Err failure) = FailsBy words old new failure

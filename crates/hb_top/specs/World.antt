@@ -8,6 +8,9 @@ pub record Shelved : Type 0 where
   pub read_faults : ℕ
   pub write_faults : ℕ
 
+abbrev pub shelved : Option Files → ℕ → ℕ → Shelved
+shelved files read_faults write_faults = record { files = files; read_faults = read_faults; write_faults = write_faults }
+
 -- what a sink tells
 pub record Printed : Type 0 where
   pub taken : Option (List ℕ)

@@ -2,5 +2,7 @@
 #![tactic(auto)]
 
 mod failure;
+mod prepare;
 mod refusal;
+mod report;
 mod words;
