@@ -1,11 +1,14 @@
 ghost use Rattle.std.specs.Prelude.{◌≡◌, List, ℕ};
+ghost use Rattle.hb_first.specs.Form.{IsSource};
 ghost use Rattle.hb_image.specs.Rules.{IsImage};
 ghost use Rattle.hb_top.specs.World.{shelved};
-ghost use Rattle.hb_top.specs.Preparing.{ReadsFile, Judges, StoresImage, Prepares};
+ghost use Rattle.hb_top.specs.Preparing.{ReadsFile, Judges, FindsSource, FindsNoScript, Builds, StoresImage, Prepares};
 
 use crate::failure::Failure;
 use crate::refusal::Refusal;
-use hb_base::{List, Script};
+use crate::words::read_words;
+use hb_base::{List, Script, Text};
+use hb_first_code::compile;
 use hb_first::{Source, read_source};
 use hb_image::Image;
 use hb_io::{Shelf, ShelfError};
@@ -43,6 +46,25 @@ fn accept(alloc: Global, bytes: &[u8]) -> Result<Source, Failure>
     }
 }
 
+/// The source that the file of this name holds.
+fn find_source<F: Shelf>(alloc: Global, shelf: &mut F, name: &str) -> Result<Source, Failure>
+    ensures { FindsSource (shelved (F.files shelf.old) (F.read_faults shelf.old) (F.write_faults shelf.old)) (shelved (F.files shelf.new) (F.read_faults shelf.new) (F.write_faults shelf.new)) name.now result }
+{
+    let bytes = read_file(alloc, shelf, name)?;
+    accept(alloc, bytes.as_slice())
+}
+
+/// The file of this name holds a script without a line. A source of the first form has no port to be read.
+fn find_no_script<F: Shelf>(alloc: Global, shelf: &mut F, name: &str) -> Result<(), Failure>
+    ensures { FindsNoScript (shelved (F.files shelf.old) (F.read_faults shelf.old) (F.write_faults shelf.old)) (shelved (F.files shelf.new) (F.read_faults shelf.new) (F.write_faults shelf.new)) name.now result }
+{
+    let script = read_file(alloc, shelf, name)?;
+    if !script.is_empty() {
+        return Err(Failure::Script);
+    }
+    Ok(())
+}
+
 /// Loads the image, and then writes it: from here on a run takes no memory.
 fn store<F: Shelf>(
     alloc: Global,
@@ -67,4 +89,32 @@ fn store<F: Shelf>(
         Err(ShelfError::Failed) => Err(Failure::Write),
         Err(ShelfError::Memory) => Err(Failure::Memory),
     }
+}
+
+/// The image of a source.
+fn build(alloc: Global, source: &Source) -> Result<Image, Failure>
+    requires { IsSource source.now }
+    ensures { Builds source.now result }
+{
+    match compile(alloc, source) {
+        Ok(image) => Ok(image),
+        Err(_) => Err(Failure::Memory),
+    }
+}
+
+/// Reads the words, compiles the source, looks at the script, and writes the image: all that comes before the run.
+pub fn prepare<F: Shelf>(
+    alloc: Global,
+    words: &List<Text>,
+    shelf: &mut F,
+) -> Result<Machine, Failure>
+    ensures { Prepares words.now (shelved (F.files shelf.old) (F.read_faults shelf.old) (F.write_faults shelf.old)) (shelved (F.files shelf.new) (F.read_faults shelf.new) (F.write_faults shelf.new)) result }
+{
+    let Some(names) = read_words(words) else {
+        return Err(Failure::Words);
+    };
+    let source = find_source(alloc, shelf, names.file)?;
+    let image = build(alloc, &source)?;
+    find_no_script(alloc, shelf, names.script)?;
+    store(alloc, shelf, names.image, image)
 }
