@@ -10,5 +10,7 @@ mod ports;
 mod ram;
 mod region;
 mod registers;
+mod run;
+mod turn;
 
 pub use machine::Machine;
