@@ -11,6 +11,8 @@ mod ram;
 mod region;
 mod registers;
 mod run;
+#[cfg(test)]
+mod tests;
 mod turn;
 
 pub use machine::Machine;
