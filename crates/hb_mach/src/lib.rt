@@ -10,5 +10,9 @@ mod ports;
 mod ram;
 mod region;
 mod registers;
+mod run;
+#[cfg(test)]
+mod tests;
+mod turn;
 
 pub use machine::Machine;

@@ -1,9 +1,11 @@
-ghost use Rattle.std.specs.Prelude.{◌≡◌, ◌+◌, ◌<◌, ◌^◌, ◌≤◌, IfOk, map, option_map, position};
+ghost use Rattle.std.specs.Prelude.{◌≡◌, ◌+◌, ◌<◌, ◌^◌, ◌≤◌, IsTrue, IfOk, map, option_map, position};
 ghost use Rattle.hb_asm.specs.Coding.{decode_of};
 ghost use Rattle.hb_image.specs.Rules.{IsImage};
 ghost use Rattle.hb_mach.specs.Arithmetic.{load_size, store_size, low_part};
 ghost use Rattle.hb_mach.specs.Lines.{AreInputs, first_value};
 ghost use Rattle.hb_mach.specs.Memory.{byte_at, load, store};
+ghost use Rattle.hb_mach.specs.Run.{stop_of};
+ghost use Rattle.hb_mach.specs.Soundness.{IsOwnEnd, is_own};
 ghost use Rattle.hb_mach.specs.State.{start, with_register};
 ghost use Rattle.hb_mach.specs.State as state;
 ghost use Rattle.hb_mach.specs.Table;
@@ -31,7 +33,7 @@ const CODE_BASE: u32 = 0x0001_0000;
 pub struct Machine {
     code: List<u32>,
     instrs: Vec<Option<Instr>>,
-    ports: List<Port>,
+    pub(crate) ports: List<Port>,
     pc: u32,
     registers: Registers,
     memory: Ram,
@@ -57,7 +59,7 @@ impl Model for Machine {
       done = m.done;
     } };
 
-    ghost invariant = { λ m. IsSound m.code m.instrs.items m.ports m.inputs };
+    ghost invariant = { λ m. IsSound m.code m.instrs.items m.ports m.inputs m.ended };
 }
 
 /// The instructions that words code.
@@ -145,6 +147,7 @@ impl Machine {
     }
 
     fn end(&mut self, stop: Stop) -> Step
+        requires { IsTrue (is_own stop) }
         ensures turn { (self.new, result) ≡ ending stop self.old }
         ensures shown { IsShown self.new.ports result }
     {
@@ -194,7 +197,8 @@ impl Machine {
     }
 
     fn call(&self) -> Stop
-        ensures { result ≡ called (state.register self.now 17) (state.register self.now 10) }
+        ensures own { IsTrue (is_own result) }
+        ensures value { result ≡ called (state.register self.now 17) (state.register self.now 10) }
     {
         match self.register(17) {
             0 => Stop::Done,
@@ -382,6 +386,17 @@ impl Machine {
             None => self.end(Stop::Unmapped),
             Some(None) => self.end(Stop::Illegal),
             Some(Some(instr)) => self.execute(instr),
+        }
+    }
+
+    /// How the machine has ended, or that it has not.
+    pub(crate) fn stop(&self) -> Stop
+        ensures value { result ≡ stop_of self.now.ended }
+        ensures own { IsOwnEnd self.now.ended }
+    {
+        match self.ended {
+            Some(stop) => stop,
+            None => Stop::Steps,
         }
     }
 }
