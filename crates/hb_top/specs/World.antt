@@ -16,6 +16,12 @@ pub record Printed : Type 0 where
   pub taken : Option (List ℕ)
   pub faults : ℕ
 
+abbrev pub printed : Option (List ℕ) → ℕ → Printed
+printed taken faults = record { taken = taken; faults = faults }
+
 pub record World : Type 0 where
   pub shelf : Shelved
   pub sink : Printed
+
+abbrev pub world : Shelved → Printed → World
+world shelf sink = record { shelf = shelf; sink = sink }

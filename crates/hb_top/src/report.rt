@@ -3,6 +3,7 @@ ghost use Rattle.hb_top.specs.declared.failure.Failure.TheVariants.{Memory};
 ghost use Rattle.hb_top.specs.Answers.{line_of, status_of_failure, TellsFailure};
 ghost use Rattle.hb_top.specs.Executing.{Tells};
 ghost use Rattle.hb_top.specs.Texts;
+ghost use Rattle.hb_top.specs.World.{printed};
 
 use crate::failure::Failure;
 use crate::refusal::Refusal;
@@ -52,7 +53,7 @@ fn status_of(failure: Failure) -> u8
 
 /// Puts a whole text: the status is `good`, or that of a put that failed.
 pub fn tell<O: Sink>(text: &[u8], good: u8, out: &mut O) -> u8
-    ensures { Tells text.now good (record { taken = O.taken out.old; faults = O.faults out.old }) (record { taken = O.taken out.new; faults = O.faults out.new }) result }
+    ensures { Tells text.now good (printed (O.taken out.old) (O.faults out.old)) (printed (O.taken out.new) (O.faults out.new)) result }
 {
     match out.put(text) {
         Ok(()) => good,
@@ -62,7 +63,7 @@ pub fn tell<O: Sink>(text: &[u8], good: u8, out: &mut O) -> u8
 
 /// Puts the line of a failure. For want of memory nothing is put.
 pub fn report<O: Sink>(failure: Failure, out: &mut O) -> u8
-    ensures { TellsFailure failure (record { taken = O.taken out.old; faults = O.faults out.old }) (record { taken = O.taken out.new; faults = O.faults out.new }) result }
+    ensures { TellsFailure failure (printed (O.taken out.old) (O.faults out.old)) (printed (O.taken out.new) (O.faults out.new)) result }
 {
     if let Failure::Memory = failure {
         return NO_MEMORY;
