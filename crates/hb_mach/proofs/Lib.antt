@@ -1,5 +1,8 @@
+pub mod FetchLaws
+pub mod KeepsLaws
 pub mod LittleLaws
 pub mod MemoryLaws
 pub mod PortLaws
 pub mod RunLaws
+pub mod RunningLaws
 pub mod WaitingLaws

@@ -1,9 +1,10 @@
 pub mod Arithmetic
-pub mod Coding
 pub mod Lines
 pub mod Memory
 pub mod Run
+pub mod Running
+pub mod Soundness
 pub mod State
 pub mod Table
+pub mod Turns
 pub mod Waiting
-pub mod Soundness

@@ -6,7 +6,7 @@ use Rattle.hb_base.specs.declared.script.ScriptLine.{ScriptLine}
 unfoldable pub waiting : ℕ → List ScriptLine → List ℕ → List ScriptLine
 waiting at [] cursors = []
 waiting at (line ∷ lines) cursors =
-  if nat_le (slice_index cursors line.port) at then line ∷ waiting (at + 1) lines cursors else waiting (at + 1) lines cursors
+    if nat_le (slice_index cursors line.port) at then line ∷ waiting (at + 1) lines cursors else waiting (at + 1) lines cursors
 
 abbrev pub is_of : ℕ → Option ScriptLine → Bool
 is_of port None = false

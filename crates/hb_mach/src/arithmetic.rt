@@ -101,13 +101,21 @@ pub fn extended(op: LoadOp, number: u32) -> u32
 fn sign_extended_byte(number: u32) -> u32
     ensures { result ≡ arithmetic.sign_extended 8 number }
 {
-    if number < 0x80 { number } else { number.wrapping_add(0xFFFF_FF00) }
+    if number < 0x80 {
+        number
+    } else {
+        number.wrapping_add(0xFFFF_FF00)
+    }
 }
 
 fn sign_extended_half(number: u32) -> u32
     ensures { result ≡ arithmetic.sign_extended 16 number }
 {
-    if number < 0x8000 { number } else { number.wrapping_add(0xFFFF_0000) }
+    if number < 0x8000 {
+        number
+    } else {
+        number.wrapping_add(0xFFFF_0000)
+    }
 }
 
 /// The part of a register that a store writes.

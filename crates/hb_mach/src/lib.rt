@@ -3,18 +3,16 @@
 #![tactic(auto)]
 
 mod arithmetic;
-mod coding;
-
-
-
 mod inputs;
 mod little;
+mod machine;
+mod ports;
 mod ram;
 mod region;
 mod registers;
+mod run;
+#[cfg(test)]
+mod tests;
+mod turn;
 
-pub use arithmetic::{alu, is_taken, is_load_aligned, is_store_aligned, bytes_loaded, bytes_stored, extended, low_part};
-pub use coding::decode;
-pub use inputs::Inputs;
-pub use ram::Ram;
-pub use registers::Registers;
+pub use machine::Machine;

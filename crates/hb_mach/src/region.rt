@@ -37,7 +37,8 @@ impl Region {
     pub fn is_within(&self, address: u32, size: u8) -> bool
         ensures { result ≡ memory.is_within self.now address size }
     {
-        address >= self.base && (address - self.base) as usize + usize::from(size) <= self.bytes.len()
+        address >= self.base
+            && (address - self.base) as usize + usize::from(size) <= self.bytes.len()
     }
 
     /// The number that the bytes of a load hold.

@@ -1,0 +1,8 @@
+//! The top call: the words of a command line are read and done, over any shelf of files and any sink of text.
+#![tactic(auto)]
+
+mod failure;
+mod prepare;
+mod refusal;
+mod report;
+mod words;
