@@ -29,19 +29,30 @@ same_texts (c ∷ cs) [] = refl
 same_texts (c ∷ cs) (d ∷ ds) = ap (λ same. (c == d) && same) (same_texts cs ds)
 
 -- words among tokens are the same words by themselves
-words_among : (name : List ℕ) (words : List (List ℕ)) → list_any (is_the_word name) (map Word words) ≡ list_any (same_text name) words
+words_among :
+    (name : List ℕ) (words : List (List ℕ))
+    → list_any (is_the_word name) (map Word words) ≡ list_any (same_text name) words
 words_among name [] = refl
-words_among name (w ∷ ws) = ap (λ same. same || list_any (is_the_word name) (map Word ws)) (same_texts name w) ∙ ap (λ others. same_text name w || others) (words_among name ws)
+words_among name (w ∷ ws) =
+    ap (λ same. same || list_any (is_the_word name) (map Word ws)) (same_texts name w)
+    ∙ ap (λ others. same_text name w || others) (words_among name ws)
 
 -- the reserved words are the first that are taken
 reserved_first : taken_words ≡ map Word reserved_words ++ drop 23 taken_words
 unfolding taken_words tokens_of scan
 reserved_first = refl
 
-not_reserved : (name : List ℕ) → list_any (is_the_word name) taken_words ≡ false → list_any (same_text name) reserved_words ≡ false
+not_reserved :
+    (name : List ℕ)
+    → list_any (is_the_word name) taken_words ≡ false
+    → list_any (same_text name) reserved_words ≡ false
 not_reserved name h =
-    let split = ap (list_any (is_the_word name)) reserved_first ∙ list_any-append (is_the_word name) (map Word reserved_words) (drop 23 taken_words) in
-    let front = or_parts (list_any (is_the_word name) (map Word reserved_words)) (list_any (is_the_word name) (drop 23 taken_words)) (sym split ∙ h) in
+    let split =
+    ap (list_any (is_the_word name)) reserved_first
+    ∙ list_any-append (is_the_word name) (map Word reserved_words) (drop 23 taken_words) in
+    let front =
+    or_parts (list_any (is_the_word name) (map Word reserved_words)) (list_any (is_the_word name) (drop 23 taken_words))
+    (sym split ∙ h) in
     sym (words_among name reserved_words) ∙ front.0
 
 continues_all : (cs : List ℕ) → list_all is_lower cs ≡ true → list_all continues_name cs ≡ true
@@ -55,7 +66,8 @@ variable [] some h = some
 variable (c ∷ []) some h = (and_parts (is_lower c) true h).0
 variable (c ∷ d ∷ cs) some h =
     let parts = and_parts (is_lower c) (list_all is_lower (d ∷ cs)) h in
-    and_from (begins_name c) (list_all continues_name (d ∷ cs)) (or_left (is_lower c) _ parts.0) (continues_all (d ∷ cs) parts.1)
+    and_from (begins_name c) (list_all continues_name (d ∷ cs)) (or_left (is_lower c) _ parts.0)
+    (continues_all (d ∷ cs) parts.1)
 
 free_is_port : (name : List ℕ) → is_free_name name ≡ true → is_port_name name ≡ true
 free_is_port name h =
@@ -64,11 +76,15 @@ free_is_port name h =
     let lower = and_parts (nat_le (length name) 64) (list_all is_lower name) short.1 in
     let none = not_reserved name (not-true _ free.1) in
     and_from (nat_le (length name) 64) _ lower.0
-    (and_from (is_variable name) _ (variable name short.0 lower.1) (not_from_false (list_any (same_text name) reserved_words) none))
+    (and_from (is_variable name) _ (variable name short.0 lower.1)
+    (not_from_false (list_any (same_text name) reserved_words) none))
 
 -- ---- the ports of a source
 
-port_of : (source : Source) → IsSource source → IsPort (record { name = source.port; dir = Out; width = 1; address = 2147483648 })
+port_of :
+    (source : Source)
+    → IsSource source
+    → IsPort (record { name = source.port; dir = Out; width = 1; address = 2147483648 })
 port_of source fits = record {
   wide = inl refl;
   high = omega arith;
@@ -92,7 +108,14 @@ ports_of source fits =
 
 -- ---- the whole image
 
-pub image_of : (source : Source) (image : Image) → IsSource source → image.ports ≡ declared_ports source → image.areas ≡ 0 → image.stack ≡ 1048576 → image.code ≡ code_words source → IsImage image
+pub image_of :
+    (source : Source) (image : Image)
+    → IsSource source
+    → image.ports ≡ declared_ports source
+    → image.areas ≡ 0
+    → image.stack ≡ 1048576
+    → image.code ≡ code_words source
+    → IsImage image
 image_of source image fits ports areas stack code =
     let words : length image.code ≡ 2 * length source.values + 2 = ap length code ∙ whole_length source.values in
     record {

@@ -30,18 +30,34 @@ pub record IsAt (code : List ℕ) (place : ℕ) (s : State) : Type 0 where
 
 -- ---- the instruction at a place
 
-word_at : (code : List ℕ) (pc place word : ℕ) → pc ≡ 65536 + 4 * place → slice_get code place ≡ Some word → (if nat_le 65536 pc then slice_get code ((pc - 65536) / 4) else None) ≡ Some word
+word_at :
+    (code : List ℕ) (pc place word : ℕ)
+    → pc ≡ 65536 + 4 * place
+    → slice_get code place ≡ Some word
+    → (if nat_le 65536 pc then slice_get code ((pc - 65536) / 4) else None) ≡ Some word
 word_at code pc place word e h =
     let low : nat_le 65536 pc ≡ true = le-leb _ _ (omega arith) in
     let at : (pc - 65536) / 4 ≡ place = omega arith in
     rw (low, at) h
 
-executes : (s : State) (instr : Instr) → s.ended ≡ None → word_at_pc s ≡ Some (code_of instr) → InRange instr → table s ≡ execute instr s
+executes :
+    (s : State) (instr : Instr)
+    → s.ended ≡ None
+    → word_at_pc s ≡ Some (code_of instr)
+    → InRange instr
+    → table s ≡ execute instr s
 unfolding table running fetched
 executes s instr going word range =
-    ap (λ ended. running ended s) going ∙ ap (λ w. fetched (option_map decode_of w) s) word ∙ ap (λ i. fetched (Some i) s) (decode-code instr range)
+    ap (λ ended. running ended s) going
+    ∙ ap (λ w. fetched (option_map decode_of w) s) word
+    ∙ ap (λ i. fetched (Some i) s) (decode-code instr range)
 
-pub does : (code : List ℕ) (place : ℕ) (s : State) (instr : Instr) → IsAt code place s → slice_get code place ≡ Some (code_of instr) → InRange instr → table s ≡ execute instr s
+pub does :
+    (code : List ℕ) (place : ℕ) (s : State) (instr : Instr)
+    → IsAt code place s
+    → slice_get code place ≡ Some (code_of instr)
+    → InRange instr
+    → table s ≡ execute instr s
 does code place s instr is word range =
     let here : slice_get s.code place ≡ Some (code_of instr) = ap (λ c. slice_get c place) is.runs ∙ word in
     executes s instr is.going (word_at s.code s.pc place (code_of instr) is.here here) range
@@ -51,7 +67,12 @@ does code place s instr is word range =
 next_place : (pc place : ℕ) → pc ≡ 65536 + 4 * place → place ≤ 134201344 → wrapped (pc + 4) ≡ 65536 + 4 * suc place
 next_place pc place e h = omega arith
 
-pub on_with : (code : List ℕ) (place register word : ℕ) (s : State) → IsAt code place s → suc place ≤ 134201344 → 17 ≢ register → IsAt code (suc place) (goes_on (record s { registers = slice_set s.registers register word }))
+pub on_with :
+    (code : List ℕ) (place register word : ℕ) (s : State)
+    → IsAt code place s
+    → suc place ≤ 134201344
+    → 17 ≢ register
+    → IsAt code (suc place) (goes_on (record s { registers = slice_set s.registers register word }))
 on_with code place register word s is low other = record {
   runs = is.runs;
   port = is.port;
@@ -63,7 +84,11 @@ on_with code place register word s is low other = record {
   call = get_or-set_other s.registers register 17 word 0 other ∙ is.call;
 }
 
-pub on : (code : List ℕ) (place : ℕ) (s : State) → IsAt code place s → suc place ≤ 134201344 → IsAt code (suc place) (goes_on s)
+pub on :
+    (code : List ℕ) (place : ℕ) (s : State)
+    → IsAt code place s
+    → suc place ≤ 134201344
+    → IsAt code (suc place) (goes_on s)
 on code place s is low = record {
   runs = is.runs;
   port = is.port;
@@ -87,7 +112,9 @@ pub sb_fits : InRange put_value
 sb_fits = (omega arith, omega arith, (omega (arith, ints), omega (arith, ints)))
 
 -- LUI x1, 0x80000
-pub lui_does : (s : State) → execute address_of_port s ≡ (goes_on (record s { registers = slice_set s.registers 1 2147483648 }), Going)
+pub lui_does :
+    (s : State)
+    → execute address_of_port s ≡ (goes_on (record s { registers = slice_set s.registers 1 2147483648 }), Going)
 unfolding execute computed
 lui_does s = refl
 
@@ -95,9 +122,13 @@ lui_does s = refl
 plus_nothing : (value : ℕ) → value < 256 → wrapped (0 + unsigned (pos value)) ≡ value
 plus_nothing value h = omega (arith, ints)
 
-pub addi_does : (value : ℕ) (s : State) → value < 256 → execute (value_of value) s ≡ (goes_on (record s { registers = slice_set s.registers 2 value }), Going)
+pub addi_does :
+    (value : ℕ) (s : State)
+    → value < 256
+    → execute (value_of value) s ≡ (goes_on (record s { registers = slice_set s.registers 2 value }), Going)
 unfolding execute computed alu_of
-addi_does value s h = ap (λ word. (goes_on (record s { registers = slice_set s.registers 2 word }), Going)) (plus_nothing value h)
+addi_does value s h =
+    ap (λ word. (goes_on (record s { registers = slice_set s.registers 2 word }), Going)) (plus_nothing value h)
 
 -- SB x2, 0(x1)
 no_offset : (address : ℕ) → address ≡ 2147483648 → wrapped (address + unsigned (pos 0)) ≡ 2147483648
@@ -106,11 +137,23 @@ no_offset address h = rw h refl
 low_byte : (value : ℕ) → value < 256 → value % 2 ^ 8 ≡ value
 low_byte value h = omega arith
 
-at_port : (value : ℕ) (s : State) → value < 256 → position (is_written_at 2147483648 1) s.ports ≡ Some 0 → store s.memory 2147483648 1 value ≡ None → storing Sb 2147483648 value s ≡ (goes_on s, Wrote 0 value)
+at_port :
+    (value : ℕ) (s : State)
+    → value < 256
+    → position (is_written_at 2147483648 1) s.ports ≡ Some 0
+    → store s.memory 2147483648 1 value ≡ None
+    → storing Sb 2147483648 value s ≡ (goes_on s, Wrote 0 value)
 unfolding storing storing_memory storing_port store_size low_part
 at_port value s h port apart = rw (apart, port, low_byte value h) refl
 
-pub sb_does : (value : ℕ) (s : State) → value < 256 → slice_index s.registers 1 ≡ 2147483648 → slice_index s.registers 2 ≡ value → position (is_written_at 2147483648 1) s.ports ≡ Some 0 → ((word : ℕ) → store s.memory 2147483648 1 word ≡ None) → execute put_value s ≡ (goes_on s, Wrote 0 value)
+pub sb_does :
+    (value : ℕ) (s : State)
+    → value < 256
+    → slice_index s.registers 1 ≡ 2147483648
+    → slice_index s.registers 2 ≡ value
+    → position (is_written_at 2147483648 1) s.ports ≡ Some 0
+    → ((word : ℕ) → store s.memory 2147483648 1 word ≡ None)
+    → execute put_value s ≡ (goes_on s, Wrote 0 value)
 unfolding execute
 sb_does value s h address loaded port apart =
     ap (λ a. storing Sb a (slice_index s.registers 2) s) (no_offset (slice_index s.registers 1) address)
