@@ -13,3 +13,6 @@ pub use fault::{Field, ImageError};
 pub use image::Image;
 pub use reading::read;
 pub use writing::write;
+
+#[cfg(test)]
+mod tests;
