@@ -1,9 +1,10 @@
 -- A script is read as the grammar says: its inputs, or its first wrong line.
-use Rattle.std.proofs.Common.{◌≡◌, ℕ, ◌+◌, Bool, true, false, cond, ltb, List, [], ◌∷◌, ◌++◌, length, All, Result, Ok, Err, refl, sym, ap, subst, arith, inl, inr}
-use Rattle.std.specs.Prelude.{IfOk, IfErr}
+use Rattle.std.proofs.Common.{◌≡◌, ℕ, ◌+◌, ◌*◌, ◌^◌, ◌<◌, Bool, true, false, cond, ltb, List, [], ◌∷◌, ◌++◌, length, All, Option, Some, None, Result, Ok, Err, refl, sym, ap, subst, arith, inl, inr}
+use Rattle.std.specs.Prelude.{IfOk, IfErr, IsSomeAnd, slice_get}
 use Rattle.std.specs.Str.Lines.{lines}
 use Rattle.std.proofs.lemmas.Bool.{ltb-true, ltb-false, le-ltb}
 use Rattle.std.proofs.lemmas.List.Elements.{All-nil, All-cons}
+use Rattle.hb_base.specs.declared.port.Dir.TheVariants.{In}
 use Rattle.hb_base.specs.declared.port.Port.{Port}
 use Rattle.hb_base.specs.declared.script.Script.{Script}
 use Rattle.hb_base.specs.declared.script.ScriptLine.{ScriptLine}
@@ -13,7 +14,7 @@ use Rattle.hb_script.specs.declared.content.Content.TheVariants.{Nothing, Input,
 use Rattle.hb_script.specs.declared.fault.ScriptError.{ScriptError}
 use Rattle.hb_script.specs.declared.fault.ScriptError.TheVariants.{Bad, Memory}
 use Rattle.hb_script.specs.Scripts.{content_of, before, joined, inputs_from, most_bytes, script_of, Gives}
-use Rattle.hb_script.specs.Grammar.{IsSkipped, SayInputs, Spells, IsLine, IsFault}
+use Rattle.hb_script.specs.Grammar.{IsSkipped, SayInputs, Spells, Suits, IsInput, IsLine, IsFault}
 use Rattle.hb_script.proofs.LineLemmas.{line_is_nothing, line_is_input, skipped_again, input_line_again}
 
 abbrev read_ok : List ScriptLine → Result (List ScriptLine) ℕ
@@ -131,3 +132,22 @@ pub is_fault : (ports : List Port) (bytes : List ℕ) (r : Result Script ScriptE
 is_fault ports bytes (Ok script) rules given = tt
 is_fault ports bytes (Err (Bad number)) rules given = faulty ports bytes number rules given
 is_fault ports bytes (Err Memory) rules given = tt
+
+-- ---- each input by itself
+
+weaker : (o : Option Port) (input : ScriptLine) (name : List ℕ) → IsSomeAnd o (Suits input name) → IsSomeAnd o (λ port. (port.dir ≡ In) × (input.value < 2 ^ (8 * port.width)))
+weaker None input name h = absurd h
+weaker (Some port) input name h = (h.way, h.within)
+
+each_input : (ports : List Port) (texts : List (List ℕ)) (inputs : List ScriptLine) → SayInputs ports texts inputs → All (IsInput ports) inputs
+each_input ports [] [] say = All-nil (IsInput ports)
+each_input ports [] (input ∷ inputs) say = absurd say
+each_input ports (line ∷ others) [] say = All-nil (IsInput ports)
+each_input ports (line ∷ others) (input ∷ inputs) (inl say) = each_input ports others (input ∷ inputs) say.1
+each_input ports (line ∷ others) (input ∷ inputs) (inr say) =
+    All-cons (IsInput ports) input inputs (weaker (slice_get ports input.port) input say.0.name say.0.port) (each_input ports others inputs say.1)
+
+pub are_inputs : (ports : List Port) (bytes : List ℕ) (r : Result Script ScriptError) → Gives r (script_of ports bytes) → IfOk r (λ script. All (IsInput ports) script.lines)
+unfolding script_of
+are_inputs ports bytes (Ok script) given = each_input ports (lines bytes) script.lines (is_found ports bytes (Ok script) given).say
+are_inputs ports bytes (Err e) given = tt
