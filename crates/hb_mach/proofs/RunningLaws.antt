@@ -2,6 +2,8 @@
 use Rattle.std.proofs.Common.{◌≡◌, ℕ, zero, suc, ◌+◌, ◌<◌, ◌≤◌, ◌⊎◌, inl, inr, List, [], ◌∷◌, ◌++◌, ◌-◌, Option, Some, None, IsSome, is_some, refl, ap, sym, ◌∙◌, subst, arith, append_assoc, append-nil}
 use Rattle.std.proofs.lemmas.List.Concat.{flat_map-append}
 use Rattle.hb_base.specs.declared.port.Port.{Port}
+use Rattle.hb_base.specs.declared.script.ScriptLine.{ScriptLine}
+use Rattle.hb_image.specs.declared.image.Image.{Image}
 use Rattle.hb_base.specs.declared.step.Step.{Step}
 use Rattle.hb_base.specs.declared.step.Step.TheVariants.{Going, Read, Wrote, Ended}
 use Rattle.hb_base.specs.declared.step.Stop.{Stop}
@@ -10,10 +12,10 @@ use Rattle.hb_io.specs.Counts.{Rose}
 use Rattle.hb_io.specs.Taken.{appended, TookFront}
 use Rattle.hb_runs.specs.Stepping.{after, answers}
 use Rattle.hb_script.specs.Lines.{line_of, lines_of}
-use Rattle.hb_mach.specs.Run.{events, stop_of}
+use Rattle.hb_mach.specs.Run.{events, stop_of, mach, shown, steps_done}
 use Rattle.hb_mach.specs.Running.{lines_shown, Ran, RanToLimit, RanToFault}
 use Rattle.hb_mach.specs.Soundness.{IsOwnEnd}
-use Rattle.hb_mach.specs.State.{State}
+use Rattle.hb_mach.specs.State.{State, start}
 use Rattle.hb_mach.specs.Table.{table, running}
 use Rattle.hb_mach.specs.Turns.{TurnGoes, TurnEnds, TurnFails}
 use Rattle.hb_mach.proofs.KeepsLaws.{keeps, ports-after}
@@ -147,3 +149,19 @@ ran_fails n limit old mid new first before now faults_first faults_before faults
           (subst (λ (bytes : List ℕ). TookFront before bytes now) same turn.front);
       fault = subst (λ (count : ℕ). Rose count faults_now) ran.faults turn.fault;
     }
+
+-- a whole run from the start, in the words of `mach`
+pub ran-lines : (image : Image) (lines : List ScriptLine) (limit : ℕ) → lines_shown (start image lines) limit ≡ lines_of image.ports (mach image lines limit).trace
+unfolding lines_shown mach shown start
+ran-lines image lines limit = refl
+
+pub ran-stop : (image : Image) (lines : List ScriptLine) (limit : ℕ) (new : State) (stop : Stop) (before now : Option (List ℕ)) (faults_before faults_now : ℕ)
+    → RanToLimit limit (start image lines) new stop before now faults_before faults_now → stop ≡ stop_of (mach image lines limit).end
+unfolding mach shown
+ran-stop image lines limit new stop before now faults_before faults_now ran =
+    ran.answer ∙ ap (λ (s : State). stop_of s.ended) ran.ran.state
+
+pub ran-done : (image : Image) (lines : List ScriptLine) (limit : ℕ) (new : State) (stop : Stop) (before now : Option (List ℕ)) (faults_before faults_now : ℕ)
+    → RanToLimit limit (start image lines) new stop before now faults_before faults_now → new.done ≡ steps_done image lines limit
+unfolding steps_done
+ran-done image lines limit new stop before now faults_before faults_now ran = ap (λ (s : State). s.done) ran.ran.state

@@ -3,12 +3,13 @@ ghost use Rattle.hb_asm.specs.Coding.{decode_of};
 ghost use Rattle.hb_image.specs.Rules.{IsImage};
 ghost use Rattle.hb_mach.specs.Lines.{AreInputs};
 ghost use Rattle.hb_mach.specs.Memory.{byte_at};
-ghost use Rattle.hb_mach.specs.Run.{stop_of};
+ghost use Rattle.hb_mach.specs.Run.{mach, stop_of};
 ghost use Rattle.hb_mach.specs.Soundness.{IsOwnEnd, is_own};
 ghost use Rattle.hb_mach.specs.State.{start, with_register};
 ghost use Rattle.hb_mach.specs.State as state;
 ghost use Rattle.hb_mach.specs.Table;
 ghost use Rattle.hb_mach.specs.Table.{goes_to, goes_on, ending, instruction_at_pc};
+ghost use Rattle.hb_runs.specs.Outcome.{Grows};
 ghost use Rattle.hb_script.specs.Lines.{IsShown};
 
 use crate::inputs::Inputs;
@@ -70,7 +71,9 @@ impl Machine {
     pub fn load(alloc: Global, image: Image, script: Script) -> Result<Machine, Memory>
         requires image { IsImage image }
         requires script { AreInputs image.ports script.lines }
-        ensures { IfOk result (λ machine. machine ≡ start image script.lines) }
+        ensures start { IfOk result (λ machine. machine ≡ start image script.lines) }
+        // What a run shows grows by at most one event or the end a step.
+        ensures grows { Grows (mach image script.lines) }
     {
         let Image {
             ports,
