@@ -71,7 +71,7 @@ struct Seen {
     sink: MemSink,
 }
 
-fn seen(alloc: Global, code: Vec<u32>, input: u8) -> Result<Seen, Memory>
+fn run(alloc: Global, code: Vec<u32>, input: u8) -> Result<Seen, Memory>
     requires least { 1 ≤ vec_len code }
     requires most { vec_len code ≤ 100 }
 {
@@ -85,7 +85,7 @@ fn seen(alloc: Global, code: Vec<u32>, input: u8) -> Result<Seen, Memory>
 #[test]
 fn a_word_that_codes_nothing_is_illegal(rt: HostRuntime) -> Result<(), Fail> {
     let alloc = rt.alloc();
-    let seen = seen(alloc, vec![in alloc; 0]?, 0)?;
+    let seen = run(alloc, vec![in alloc; 0]?, 0)?;
     assert_eq!(rt; seen.stop, Stop::Illegal);
     assert_eq!(rt; seen.done, 1);
     Ok(())
@@ -94,7 +94,7 @@ fn a_word_that_codes_nothing_is_illegal(rt: HostRuntime) -> Result<(), Fail> {
 #[test]
 fn an_environment_call_with_no_number_is_done(rt: HostRuntime) -> Result<(), Fail> {
     let alloc = rt.alloc();
-    let seen = seen(alloc, vec![in alloc; ECALL]?, 0)?;
+    let seen = run(alloc, vec![in alloc; ECALL]?, 0)?;
     assert_eq!(rt; seen.stop, Stop::Done);
     assert_eq!(rt; seen.done, 1);
     Ok(())
@@ -115,7 +115,7 @@ fn a_halt_comes_after_three_steps_and_stays(rt: HostRuntime) -> Result<(), Fail>
 #[test]
 fn lb_at_a_port_extends_the_sign_and_the_trace_shows_the_line(rt: HostRuntime) -> Result<(), Fail> {
     let alloc = rt.alloc();
-    let seen = seen(
+    let seen = run(
         alloc,
         vec![in alloc; PORTS, 0x0000_8103, PUT_X2, ECALL]?,
         0x80,
@@ -127,7 +127,7 @@ fn lb_at_a_port_extends_the_sign_and_the_trace_shows_the_line(rt: HostRuntime) -
 #[test]
 fn a_read_past_the_script_ends_the_run(rt: HostRuntime) -> Result<(), Fail> {
     let alloc = rt.alloc();
-    let seen = seen(
+    let seen = run(
         alloc,
         vec![in alloc; PORTS, 0x0000_c103, 0x0000_c103, ECALL]?,
         7,
@@ -141,7 +141,7 @@ fn a_read_past_the_script_ends_the_run(rt: HostRuntime) -> Result<(), Fail> {
 #[test]
 fn a_misaligned_load_comes_before_an_unmapped_one(rt: HostRuntime) -> Result<(), Fail> {
     let alloc = rt.alloc();
-    let seen = seen(alloc, vec![in alloc; 0x0020_2083]?, 0)?;
+    let seen = run(alloc, vec![in alloc; 0x0020_2083]?, 0)?;
     assert_eq!(rt; seen.stop, Stop::Misaligned);
     Ok(())
 }
@@ -149,7 +149,7 @@ fn a_misaligned_load_comes_before_an_unmapped_one(rt: HostRuntime) -> Result<(),
 #[test]
 fn a_jump_outside_the_code_ends_the_next_step(rt: HostRuntime) -> Result<(), Fail> {
     let alloc = rt.alloc();
-    let seen = seen(alloc, vec![in alloc; 0x0080_006f]?, 0)?;
+    let seen = run(alloc, vec![in alloc; 0x0080_006f]?, 0)?;
     assert_eq!(rt; seen.stop, Stop::Unmapped);
     assert_eq!(rt; seen.done, 2);
     Ok(())
@@ -159,7 +159,7 @@ fn a_jump_outside_the_code_ends_the_next_step(rt: HostRuntime) -> Result<(), Fai
 fn sra_brings_in_the_sign_and_srl_zeros(rt: HostRuntime) -> Result<(), Fail> {
     let alloc = rt.alloc();
     let code = vec![in alloc; PORTS, 0x41f0_d113, PUT_X2, 0x01f0_d113, PUT_X2, ECALL]?;
-    let seen = seen(alloc, code, 0)?;
+    let seen = run(alloc, code, 0)?;
     assert_eq!(rt;
         seen.sink.bytes(),
         b"w tx FFFFFFFF\nw tx 00000001\n".as_slice()
@@ -171,7 +171,7 @@ fn sra_brings_in_the_sign_and_srl_zeros(rt: HostRuntime) -> Result<(), Fail> {
 fn blt_is_signed_and_bltu_is_not(rt: HostRuntime) -> Result<(), Fail> {
     let alloc = rt.alloc();
     let code = vec![in alloc; 0xfff0_0093, 0x0000_c463, 0, 0x0000_e463, ECALL]?;
-    let seen = seen(alloc, code, 0)?;
+    let seen = run(alloc, code, 0)?;
     assert_eq!(rt; seen.stop, Stop::Done);
     assert_eq!(rt; seen.done, 4);
     Ok(())
@@ -180,7 +180,7 @@ fn blt_is_signed_and_bltu_is_not(rt: HostRuntime) -> Result<(), Fail> {
 #[test]
 fn x0_stays_0(rt: HostRuntime) -> Result<(), Fail> {
     let alloc = rt.alloc();
-    let seen = seen(
+    let seen = run(
         alloc,
         vec![in alloc; PORTS, 0x0050_0013, 0x0000_a223, ECALL]?,
         0,
