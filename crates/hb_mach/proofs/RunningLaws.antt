@@ -1,5 +1,5 @@
 -- How the turns of a run make up the run.
-use Rattle.std.proofs.Common.{◌≡◌, ℕ, zero, suc, ◌+◌, ◌<◌, ◌≤◌, ◌⊎◌, inl, inr, List, [], ◌∷◌, ◌++◌, ◌-◌, Option, Some, None, IsSome, is_some, refl, ap, sym, ◌∙◌, subst, arith, append_assoc, append-nil}
+use Rattle.std.proofs.Common.{◌≡◌, ℕ, zero, suc, ◌+◌, ◌<◌, ◌↔◌, List, [], ◌∷◌, ◌++◌, ◌-◌, Option, Some, None, IsSome, refl, ap, sym, ◌∙◌, subst, arith, append_assoc, append-nil}
 use Rattle.std.proofs.lemmas.List.Concat.{flat_map-append}
 use Rattle.hb_base.specs.declared.port.Port.{Port}
 use Rattle.hb_base.specs.declared.script.ScriptLine.{ScriptLine}
@@ -7,7 +7,7 @@ use Rattle.hb_image.specs.declared.image.Image.{Image}
 use Rattle.hb_base.specs.declared.step.Step.{Step}
 use Rattle.hb_base.specs.declared.step.Step.TheVariants.{Going, Read, Wrote, Ended}
 use Rattle.hb_base.specs.declared.step.Stop.{Stop}
-use Rattle.hb_base.specs.declared.step.Stop.TheVariants.{Sink}
+use Rattle.hb_base.specs.declared.step.Stop.TheVariants.{Done, Halt, Stack, InputEnd, Steps, Illegal, Misaligned, Unmapped, Break, Sink}
 use Rattle.hb_io.specs.Counts.{Rose}
 use Rattle.hb_io.specs.Taken.{appended, TookFront}
 use Rattle.hb_runs.specs.Stepping.{after, answers}
@@ -131,6 +131,38 @@ ran_ends n limit old mid new first before now faults_first faults_before faults_
     let whole : n + 1 + (limit - (n + 1)) ≡ limit = omega arith in
     rw (← whole) (ran_over (n + 1) (limit - (n + 1)) old new first now faults_first faults_now end.0 end.1
     (ran_more n old mid new first before now faults_first faults_before faults_now ran turn.goes))
+
+steps-going : (ended : Option Stop) → IsOwnEnd ended → (stop_of ended ≡ Steps) ↔ (ended ≡ None)
+steps-going None own = (λ e. refl, λ e. refl)
+steps-going (Some Done) own = (λ e. cc, λ e. cc)
+steps-going (Some (Halt argument)) own = (λ e. cc, λ e. cc)
+steps-going (Some Stack) own = (λ e. cc, λ e. cc)
+steps-going (Some (InputEnd port)) own = (λ e. cc, λ e. cc)
+steps-going (Some Steps) own = (λ e. cc, λ e. cc)
+steps-going (Some Illegal) own = (λ e. cc, λ e. cc)
+steps-going (Some Misaligned) own = (λ e. cc, λ e. cc)
+steps-going (Some Unmapped) own = (λ e. cc, λ e. cc)
+steps-going (Some Break) own = (λ e. cc, λ e. cc)
+steps-going (Some Sink) own = (λ e. cc, λ e. cc)
+
+no-sink : (ended : Option Stop) → IsOwnEnd ended → stop_of ended ≡ Sink → ⊥
+no-sink None own e = cc
+no-sink (Some Done) own e = cc
+no-sink (Some (Halt argument)) own e = cc
+no-sink (Some Stack) own e = cc
+no-sink (Some (InputEnd port)) own e = cc
+no-sink (Some Steps) own e = cc
+no-sink (Some Illegal) own e = cc
+no-sink (Some Misaligned) own e = cc
+no-sink (Some Unmapped) own e = cc
+no-sink (Some Break) own e = cc
+no-sink (Some Sink) own e = cc
+
+pub ran_to_limit : (limit : ℕ) (old new : State) (stop : Stop) (before now : Option (List ℕ)) (faults_before faults_now : ℕ)
+    → Ran limit old new before now faults_before faults_now → stop ≡ stop_of new.ended → IsOwnEnd new.ended
+    → RanToLimit limit old new stop before now faults_before faults_now
+ran_to_limit limit old new stop before now faults_before faults_now ran answer own =
+    record { ran = ran; answer = answer; steps = rw answer (steps-going new.ended own); no_sink = λ e. no-sink new.ended own (sym answer ∙ e) }
 
 pub ran_fails : (n limit : ℕ) (old mid new : State) (first before now : Option (List ℕ)) (faults_first faults_before faults_now : ℕ)
     → n < limit → Ran n old mid first before faults_first faults_before → TurnFails mid new before now faults_before faults_now

@@ -1,5 +1,5 @@
 -- The lines of a script that was read are inputs of the image's ports.
-use Rattle.std.proofs.Common.{◌≡◌, ℕ, ◌*◌, ◌+◌, ◌<◌, ◌^◌, ◌⊎◌, inl, inr, Bool, true, false, ◌&&◌, if◌then◌else◌, nat_lt, List, [], ◌∷◌, length, slice_get, Option, Some, None, Result, Ok, Err, IsSomeAnd, get_or, position, refl, ap, sym, ◌∙◌, subst}
+use Rattle.std.proofs.Common.{◌≡◌, ℕ, ◌*◌, ◌+◌, ◌<◌, ◌^◌, ◌⊎◌, inl, inr, Bool, true, false, if◌then◌else◌, nat_lt, List, [], ◌∷◌, length, slice_get, Option, Some, None, Result, Ok, Err, get_or, position, refl, subst}
 use Rattle.std.specs.Option.{option_map_or}
 use Rattle.std.specs.Str.{bytes_eq}
 use Rattle.std.specs.Str.Lines.{lines}
@@ -15,7 +15,7 @@ use Rattle.hb_base.specs.declared.port.Port.{Port}
 use Rattle.hb_base.specs.declared.script.ScriptLine.{ScriptLine}
 use Rattle.hb_script.specs.declared.content.Content.{Content}
 use Rattle.hb_script.specs.declared.content.Content.TheVariants.{Nothing, Input, Wrong}
-use Rattle.hb_script.specs.Scripts.{script_of, inputs_from, joined, before, content_of, content_of_words, input_of, input_at, is_input_named, is_in, is_value, is_hex, is_comment, words, most_bytes}
+use Rattle.hb_script.specs.Scripts.{script_of, inputs_from, joined, content_of, content_of_words, input_of, input_at, is_input_named, is_in, is_value, is_hex, is_comment, words, most_bytes}
 use Rattle.hb_mach.specs.Lines.{IsInput, AreInputs}
 
 same_input : (a b : ScriptLine) → Input a ≡ Input b → a ≡ b
