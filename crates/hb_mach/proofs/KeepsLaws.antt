@@ -1,5 +1,5 @@
 -- No step changes code or ports.
-use Rattle.std.proofs.Common.{◌≡◌, ℕ, zero, suc, ◌%◌, ◌==◌, Bool, true, false, if◌then◌else◌, Option, Some, None, refl, ap, sym, ◌∙◌, position}
+use Rattle.std.proofs.Common.{◌≡◌, ℕ, zero, suc, ◌%◌, ◌==◌, Bool, true, false, if◌then◌else◌, Option, Some, None, refl, ◌∙◌, position}
 use Rattle.hb_asm.specs.declared.instr.Instr.{Instr}
 use Rattle.hb_asm.specs.declared.instr.Instr.TheVariants.{Lui, Auipc, Jal, Jalr, Branch, Load, Store, OpImm, Op, Fence, Ecall, Ebreak}
 use Rattle.hb_asm.specs.declared.instr.LoadOp.{LoadOp}

@@ -1,19 +1,21 @@
 -- How the turns of a run make up the run.
-use Rattle.std.proofs.Common.{◌≡◌, ℕ, zero, suc, ◌+◌, ◌<◌, ◌≤◌, ◌⊎◌, inl, inr, List, [], ◌∷◌, ◌++◌, ◌-◌, Option, Some, None, IsSome, is_some, refl, ap, sym, ◌∙◌, subst, arith, append_assoc, append-nil}
+use Rattle.std.proofs.Common.{◌≡◌, ℕ, zero, suc, ◌+◌, ◌<◌, ◌↔◌, List, [], ◌∷◌, ◌++◌, ◌-◌, Option, Some, None, IsSome, refl, ap, sym, ◌∙◌, subst, arith, append_assoc, append-nil}
 use Rattle.std.proofs.lemmas.List.Concat.{flat_map-append}
 use Rattle.hb_base.specs.declared.port.Port.{Port}
+use Rattle.hb_base.specs.declared.script.ScriptLine.{ScriptLine}
+use Rattle.hb_image.specs.declared.image.Image.{Image}
 use Rattle.hb_base.specs.declared.step.Step.{Step}
 use Rattle.hb_base.specs.declared.step.Step.TheVariants.{Going, Read, Wrote, Ended}
 use Rattle.hb_base.specs.declared.step.Stop.{Stop}
-use Rattle.hb_base.specs.declared.step.Stop.TheVariants.{Sink}
+use Rattle.hb_base.specs.declared.step.Stop.TheVariants.{Done, Halt, Stack, InputEnd, Steps, Illegal, Misaligned, Unmapped, Break, Sink}
 use Rattle.hb_io.specs.Counts.{Rose}
 use Rattle.hb_io.specs.Taken.{appended, TookFront}
 use Rattle.hb_runs.specs.Stepping.{after, answers}
 use Rattle.hb_script.specs.Lines.{line_of, lines_of}
-use Rattle.hb_mach.specs.Run.{events, stop_of}
+use Rattle.hb_mach.specs.Run.{events, stop_of, mach, shown, steps_done}
 use Rattle.hb_mach.specs.Running.{lines_shown, Ran, RanToLimit, RanToFault}
 use Rattle.hb_mach.specs.Soundness.{IsOwnEnd}
-use Rattle.hb_mach.specs.State.{State}
+use Rattle.hb_mach.specs.State.{State, start}
 use Rattle.hb_mach.specs.Table.{table, running}
 use Rattle.hb_mach.specs.Turns.{TurnGoes, TurnEnds, TurnFails}
 use Rattle.hb_mach.proofs.KeepsLaws.{keeps, ports-after}
@@ -130,6 +132,38 @@ ran_ends n limit old mid new first before now faults_first faults_before faults_
     rw (← whole) (ran_over (n + 1) (limit - (n + 1)) old new first now faults_first faults_now end.0 end.1
     (ran_more n old mid new first before now faults_first faults_before faults_now ran turn.goes))
 
+steps-going : (ended : Option Stop) → IsOwnEnd ended → (stop_of ended ≡ Steps) ↔ (ended ≡ None)
+steps-going None own = (λ e. refl, λ e. refl)
+steps-going (Some Done) own = (λ e. cc, λ e. cc)
+steps-going (Some (Halt argument)) own = (λ e. cc, λ e. cc)
+steps-going (Some Stack) own = (λ e. cc, λ e. cc)
+steps-going (Some (InputEnd port)) own = (λ e. cc, λ e. cc)
+steps-going (Some Steps) own = (λ e. cc, λ e. cc)
+steps-going (Some Illegal) own = (λ e. cc, λ e. cc)
+steps-going (Some Misaligned) own = (λ e. cc, λ e. cc)
+steps-going (Some Unmapped) own = (λ e. cc, λ e. cc)
+steps-going (Some Break) own = (λ e. cc, λ e. cc)
+steps-going (Some Sink) own = (λ e. cc, λ e. cc)
+
+no-sink : (ended : Option Stop) → IsOwnEnd ended → stop_of ended ≡ Sink → ⊥
+no-sink None own e = cc
+no-sink (Some Done) own e = cc
+no-sink (Some (Halt argument)) own e = cc
+no-sink (Some Stack) own e = cc
+no-sink (Some (InputEnd port)) own e = cc
+no-sink (Some Steps) own e = cc
+no-sink (Some Illegal) own e = cc
+no-sink (Some Misaligned) own e = cc
+no-sink (Some Unmapped) own e = cc
+no-sink (Some Break) own e = cc
+no-sink (Some Sink) own e = cc
+
+pub ran_to_limit : (limit : ℕ) (old new : State) (stop : Stop) (before now : Option (List ℕ)) (faults_before faults_now : ℕ)
+    → Ran limit old new before now faults_before faults_now → stop ≡ stop_of new.ended → IsOwnEnd new.ended
+    → RanToLimit limit old new stop before now faults_before faults_now
+ran_to_limit limit old new stop before now faults_before faults_now ran answer own =
+    record { ran = ran; answer = answer; steps = rw answer (steps-going new.ended own); no_sink = λ e. no-sink new.ended own (sym answer ∙ e) }
+
 pub ran_fails : (n limit : ℕ) (old mid new : State) (first before now : Option (List ℕ)) (faults_first faults_before faults_now : ℕ)
     → n < limit → Ran n old mid first before faults_first faults_before → TurnFails mid new before now faults_before faults_now
     → RanToFault limit old new Sink first now faults_first faults_now
@@ -147,3 +181,19 @@ ran_fails n limit old mid new first before now faults_first faults_before faults
           (subst (λ (bytes : List ℕ). TookFront before bytes now) same turn.front);
       fault = subst (λ (count : ℕ). Rose count faults_now) ran.faults turn.fault;
     }
+
+-- a whole run from the start, in the words of `mach`
+pub ran-lines : (image : Image) (lines : List ScriptLine) (limit : ℕ) → lines_shown (start image lines) limit ≡ lines_of image.ports (mach image lines limit).trace
+unfolding lines_shown mach shown start
+ran-lines image lines limit = refl
+
+pub ran-stop : (image : Image) (lines : List ScriptLine) (limit : ℕ) (new : State) (stop : Stop) (before now : Option (List ℕ)) (faults_before faults_now : ℕ)
+    → RanToLimit limit (start image lines) new stop before now faults_before faults_now → stop ≡ stop_of (mach image lines limit).end
+unfolding mach shown
+ran-stop image lines limit new stop before now faults_before faults_now ran =
+    ran.answer ∙ ap (λ (s : State). stop_of s.ended) ran.ran.state
+
+pub ran-done : (image : Image) (lines : List ScriptLine) (limit : ℕ) (new : State) (stop : Stop) (before now : Option (List ℕ)) (faults_before faults_now : ℕ)
+    → RanToLimit limit (start image lines) new stop before now faults_before faults_now → new.done ≡ steps_done image lines limit
+unfolding steps_done
+ran-done image lines limit new stop before now faults_before faults_now ran = ap (λ (s : State). s.done) ran.ran.state
