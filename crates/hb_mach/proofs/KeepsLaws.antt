@@ -51,7 +51,7 @@ keeps-loading_memory None op rd address s = keeps-loading_port (position (is_rea
 keeps-loading : (op : LoadOp) (rd address : ℕ) (s : State) → Keeps s (loading op rd address s)
 unfolding loading
 keeps-loading op rd address s =
-  either s (address % load_size op == 0) _ _ (keeps-loading_memory (load s.memory address (load_size op)) op rd address s) (refl, refl)
+    either s (address % load_size op == 0) _ _ (keeps-loading_memory (load s.memory address (load_size op)) op rd address s) (refl, refl)
 
 keeps-storing_port : (port : Option ℕ) (word : ℕ) (s : State) → Keeps s (storing_port port word s)
 unfolding storing_port
@@ -66,7 +66,7 @@ keeps-storing_memory None op address word s = keeps-storing_port (position (is_w
 keeps-storing : (op : StoreOp) (address word : ℕ) (s : State) → Keeps s (storing op address word s)
 unfolding storing
 keeps-storing op address word s =
-  either s (address % store_size op == 0) _ _ (keeps-storing_memory (store s.memory address (store_size op) word) op address word s) (refl, refl)
+    either s (address % store_size op == 0) _ _ (keeps-storing_memory (store s.memory address (store_size op) word) op address word s) (refl, refl)
 
 keeps-execute : (instr : Instr) (s : State) → Keeps s (execute instr s)
 unfolding execute

@@ -5,4 +5,5 @@ pub mod MemoryLaws
 pub mod PortLaws
 pub mod RunLaws
 pub mod RunningLaws
+pub mod ScriptLaws
 pub mod WaitingLaws

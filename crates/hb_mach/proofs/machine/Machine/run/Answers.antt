@@ -10,11 +10,11 @@ loop-step-preserved g c = ran_more _ _ _ _ _ _ _ _ _ _ c.loop-step.invariant c.i
 
 pub returns-in-Ends : goal.returns-in-Ends
 returns-in-Ends g c =
-  inl (record {
-    ran = ran_ends _ _ _ _ _ _ _ _ _ _ _ c.loop-step-test.true c.loop-step.invariant c.in-Ends.ensures;
-    answer = c.stop.ensures.value;
-    own = c.stop.ensures.own
-  })
+    inl (record {
+      ran = ran_ends _ _ _ _ _ _ _ _ _ _ _ c.loop-step-test.true c.loop-step.invariant c.in-Ends.ensures;
+      answer = c.stop.ensures.value;
+      own = c.stop.ensures.own;
+    })
 
 pub returns-in-Fails : goal.returns-in-Fails
 returns-in-Fails g c = inr (ran_fails _ _ _ _ _ _ _ _ _ _ _ c.loop-step-test.true c.loop-step.invariant c.in-Fails.ensures)
