@@ -1,0 +1,9 @@
+//! Patterns of up to 64 bits, and cubes: sets of patterns that fix some of their bits. Nothing here takes memory.
+#![tactic(auto)]
+
+mod cube;
+mod pattern;
+mod shift;
+
+pub use cube::Cube;
+pub use pattern::Pattern;
