@@ -72,7 +72,7 @@ digits-parts high width at n =
     ap (digits (high + (width + at))) (sym (shr_split n (width + at)))
     ∙ digits-join high (width + at) (n / 2 ^ (width + at)) (n % 2 ^ (width + at)) (mod-lt n (pow_pos (width + at)))
     ∙ ap (λ low. digits high (n / 2 ^ (width + at)) ++ low)
-        (ap (digits (width + at)) (mod-pow-add n width at) ∙ digits-join width at (n / 2 ^ at % 2 ^ width) (n % 2 ^ at) (mod-lt n (pow_pos at)))
+    (ap (digits (width + at)) (mod-pow-add n width at) ∙ digits-join width at (n / 2 ^ at % 2 ^ width) (n % 2 ^ at) (mod-lt n (pow_pos at)))
 
 take-whole : (n : ℕ) (bits : List Bool) → length bits ≡ n → take n bits ≡ bits
 take-whole n bits e = ap (λ i. take i bits) (sym e) ∙ take-length bits
@@ -80,7 +80,7 @@ take-whole n bits e = ap (λ i. take i bits) (sym e) ∙ take-length bits
 pub cut_at-parts : (high part low : List Bool) → cut_at (length low) (length part) (high ++ (part ++ low)) ≡ part
 cut_at-parts high part low =
     let before : length (high ++ (part ++ low)) - (length low + length part) ≡ length high =
-        omega (arith, length-append high (part ++ low), length-append part low) in
+    omega (arith, length-append high (part ++ low), length-append part low) in
     ap (λ i. take (length part) (drop i (high ++ (part ++ low)))) before
     ∙ ap (take (length part)) (drop-append_seam high (part ++ low))
     ∙ take-append_seam part low
@@ -108,9 +108,9 @@ place_at-cuts bits new at within =
     let after : length bits - at ≡ length bits - (0 + at) = omega arith in
     let left : length (drop (length bits - at) bits) ≡ at = omega (arith, length-drop (length bits - at) bits) in
     let front : take high bits ≡ cut_at (at + length new) high bits =
-        ap (take high) (sym (drop_none bits) ∙ ap (λ i. drop i bits) none) in
+    ap (take high) (sym (drop_none bits) ∙ ap (λ i. drop i bits) none) in
     let back : drop (length bits - at) bits ≡ cut_at 0 at bits =
-        sym (take-whole at (drop (length bits - at) bits) left) ∙ ap (λ i. take at (drop i bits)) after in
+    sym (take-whole at (drop (length bits - at) bits) left) ∙ ap (λ i. take at (drop i bits)) after in
     ap (λ f. f ++ new ++ drop (length bits - at) bits) front ∙ ap (λ b. cut_at (at + length new) high bits ++ new ++ b) back
 
 -- a bit as a number

@@ -7,3 +7,6 @@ mod shift;
 
 pub use cube::Cube;
 pub use pattern::Pattern;
+
+#[cfg(test)]
+mod tests;

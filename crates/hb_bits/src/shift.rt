@@ -7,7 +7,11 @@ pub(crate) fn shifted_up(word: u64, places: u32) -> u64
     requires fits { word * 2 ^ places < 2 ^ 64 }
     ensures { result ≡ word * 2 ^ places }
 {
-    if places < u64::BITS { word << places } else { 0 }
+    if places < u64::BITS {
+        word << places
+    } else {
+        0
+    }
 }
 
 /// The word without its last places.
@@ -15,7 +19,11 @@ pub(crate) fn shifted_down(word: u64, places: u32) -> u64
     requires { places ≤ 64 }
     ensures { result ≡ word / 2 ^ places }
 {
-    if places < u64::BITS { word >> places } else { 0 }
+    if places < u64::BITS {
+        word >> places
+    } else {
+        0
+    }
 }
 
 /// So many ones, with zeros above them.
@@ -23,5 +31,9 @@ pub(crate) fn ones(width: u32) -> u64
     requires { width ≤ 64 }
     ensures { result ≡ 2 ^ width - 1 }
 {
-    if width < u64::BITS { (1 << width) - 1 } else { u64::MAX }
+    if width < u64::BITS {
+        (1 << width) - 1
+    } else {
+        u64::MAX
+    }
 }

@@ -1,4 +1,4 @@
-use Rattle.std.proofs.Common.{◌≡◌, ◌∙◌, sym, ap, ◌-◌, ◌^◌, ◌/◌, bit_and}
+use Rattle.std.proofs.Common.{◌∙◌, sym, ap, ◌^◌, ◌/◌, bit_and}
 use Rattle.std.proofs.lemmas.Nat.{and_mask}
 use Rattle.hb_bits.specs.Bits.{digits}
 use Rattle.hb_bits.specs.BitsLaws.{cut_at-digits}

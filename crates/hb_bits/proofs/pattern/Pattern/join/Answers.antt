@@ -15,13 +15,13 @@ word_is c =
 
 pub invariant_of-result : goal.invariant_of-result
 invariant_of-result c = record {
-    narrow = c.requires;
-    in_range = subst (λ word. word < 2 ^ (c.args.self.width + c.args.low.width)) (sym (word_is c))
-      (joined_lt c.args.self.width c.args.low.width c.args.self.word c.args.low.word c.args.self.in_range c.args.low.in_range)
-  }
+  narrow = c.requires;
+  in_range = subst (λ word. word < 2 ^ (c.args.self.width + c.args.low.width)) (sym (word_is c))
+      (joined_lt c.args.self.width c.args.low.width c.args.self.word c.args.low.word c.args.self.in_range c.args.low.in_range);
+}
 
 pub returns-clause-bits : goal.returns-clause-bits
 returns-clause-bits c =
     ap (digits (c.args.self.width + c.args.low.width))
-      (ap (λ high. bit_or high c.args.low.word) c.shifted_up.ensures ∙ or_shifted c.args.self.word c.args.low.width c.args.low.word c.args.low.in_range)
+    (ap (λ high. bit_or high c.args.low.word) c.shifted_up.ensures ∙ or_shifted c.args.self.word c.args.low.width c.args.low.word c.args.low.in_range)
     ∙ digits-join c.args.self.width c.args.low.width c.args.self.word c.args.low.word c.args.low.in_range
