@@ -85,6 +85,18 @@ cut_at-parts high part low =
     ∙ ap (take (length part)) (drop-append_seam high (part ++ low))
     ∙ take-append_seam part low
 
+pub place_at-parts : (high part low new : List Bool) → length new ≡ length part → place_at (length low) new (high ++ (part ++ low)) ≡ high ++ new ++ low
+place_at-parts high part low new same =
+    let before : length (high ++ (part ++ low)) - (length low + length new) ≡ length high =
+    omega (arith, length-append high (part ++ low), length-append part low) in
+    let until : length (high ++ (part ++ low)) - length low ≡ length (high ++ part) =
+    omega (arith, length-append high (part ++ low), length-append part low, length-append high part) in
+    ap (λ i. take i (high ++ (part ++ low)) ++ new ++ drop (length (high ++ (part ++ low)) - length low) (high ++ (part ++ low))) before
+    ∙ ap (λ front. front ++ new ++ drop (length (high ++ (part ++ low)) - length low) (high ++ (part ++ low))) (take-append_seam high (part ++ low))
+    ∙ ap (λ i. high ++ new ++ drop i (high ++ (part ++ low))) until
+    ∙ ap (λ bits. high ++ new ++ drop (length (high ++ part)) bits) (sym (append_assoc high part low))
+    ∙ ap (λ back. high ++ new ++ back) (drop-append_seam (high ++ part) low)
+
 -- the bits of a number in the middle are the digits of the number that stands there
 pub cut_at-digits : (width at part n : ℕ) → at + part ≤ width → cut_at at part (digits width n) ≡ digits part (n / 2 ^ at % 2 ^ part)
 cut_at-digits width at part n within =

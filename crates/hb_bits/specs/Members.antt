@@ -1,5 +1,6 @@
 -- Cubes as lists of members, and the patterns that are in them.
-use Rattle.std.specs.Prelude.{◌≡◌, ℕ, zero, suc, ◌/◌, ◌%◌, ◌==◌, Bool, if◌then◌else◌, List, [], ◌∷◌, ◌++◌}
+use Rattle.std.specs.Prelude.{◌≡◌, ℕ, zero, suc, ◌/◌, ◌%◌, ◌==◌, Bool, if◌then◌else◌, List, [], ◌∷◌, ◌++◌, ◌≤◌}
+use Rattle.hb_bits.specs.Bits.{number}
 
 -- a bit that is fixed, or free to be either
 pub data Member : Type 0 where
@@ -25,3 +26,10 @@ IsIn [] [] = Unit {0}
 IsIn [] (bit ∷ bits) = ⊥
 IsIn (member ∷ members) [] = ⊥
 IsIn (member ∷ members) (bit ∷ bits) = Agrees member bit × IsIn members bits
+
+abbrev pub IsInBoth : List Member → List Member → List Bool → Type 0
+IsInBoth cube other bits = IsIn cube bits × IsIn other bits
+
+-- no pattern that is in both has a smaller number
+abbrev pub IsLeastInBoth : List Member → List Member → List Bool → Type 0
+IsLeastInBoth cube other bits = IsInBoth cube other bits × ((more : List Bool) → IsInBoth cube other more → number bits ≤ number more)

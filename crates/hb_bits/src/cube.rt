@@ -14,8 +14,7 @@ pub struct Cube {
 }
 
 impl Cube {
-    ghost use Rattle.hb_bits.specs.Bits.{number};
-    ghost use Rattle.hb_bits.specs.Members.{IsIn};
+    ghost use Rattle.hb_bits.specs.Members.{IsIn, IsInBoth, IsLeastInBoth};
     ghost use Rattle.hb_bits.specs.OfCube.{members_of};
     ghost use Rattle.hb_bits.specs.OfPattern.{bits_of};
 
@@ -31,10 +30,8 @@ impl Cube {
     pub fn meets(self, other: Cube) -> Option<Pattern>
         requires { other.width ≡ self.width }
         ensures width { IfSome result (λ p. p.width ≡ self.width) }
-        ensures here { IfSome result (λ p. IsIn (members_of self) (bits_of p)) }
-        ensures there { IfSome result (λ p. IsIn (members_of other) (bits_of p)) }
-        ensures least { IfSome result (λ p. (bits : List Bool) → IsIn (members_of self) bits → IsIn (members_of other) bits → p.word ≤ number bits) }
-        ensures none { IfNone result ((bits : List Bool) → IsIn (members_of self) bits → IsIn (members_of other) bits → ⊥) }
+        ensures least { IfSome result (λ p. IsLeastInBoth (members_of self) (members_of other) (bits_of p)) }
+        ensures none { IfNone result ((bits : List Bool) → ¬ IsInBoth (members_of self) (members_of other) bits) }
     {
         if (self.value ^ other.value) & self.mask & other.mask != 0 {
             return None;

@@ -1,4 +1,4 @@
-//! Patterns of up to 64 bits, and cubes: sets of patterns that fix some of their bits. Nothing here takes memory.
+//! Patterns of up to 64 bits, and cubes, which are the patterns with some bits fixed. Nothing here takes memory.
 #![tactic(auto)]
 
 mod cube;

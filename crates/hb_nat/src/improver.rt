@@ -43,9 +43,11 @@ fn decided(possible: bool) -> Improvement
     }
 }
 
-/// The answer where two arguments are open: some two numbers serve, but it may be that no number serves twice.
+/// The answer where two arguments are open: some two numbers serve, but where they have to be the same it may be
+/// that none does.
 fn decided_twice(same: bool, possible: bool) -> Improvement
-    ensures { result ≡ (if same then (if possible then Improvement.Nothing else Improvement.Never) else Improvement.Nothing) }
+    ensures { result ≡ (if same then (if possible then Improvement.Nothing else Improvement.Never)
+        else Improvement.Nothing) }
 {
     if same {
         decided(possible)
@@ -96,8 +98,10 @@ fn improve_product(n: NatArg, m: NatArg, p: NatArg) -> Improvement
 
 /// The answer where one factor and the product are known, on whichever side the open factor stands.
 fn improve_factor(factor: u64, variable: u32, product: u64) -> Improvement
-    ensures right { IsAnswer (NatFact.Product (NatArg.Known factor) (NatArg.Open variable) (NatArg.Known product)) result }
-    ensures left { IsAnswer (NatFact.Product (NatArg.Open variable) (NatArg.Known factor) (NatArg.Known product)) result }
+    ensures right { IsAnswer
+        (NatFact.Product (NatArg.Known factor) (NatArg.Open variable) (NatArg.Known product)) result }
+    ensures left { IsAnswer
+        (NatFact.Product (NatArg.Open variable) (NatArg.Known factor) (NatArg.Known product)) result }
 {
     if factor == 0 {
         decided(product == 0)
