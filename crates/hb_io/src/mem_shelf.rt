@@ -24,7 +24,6 @@ pub struct MemShelf {
 }
 
 impl Model for MemShelf {
-    ghost use Rattle.std.specs.Coded.{code_by, coded_ℕ, coded_list, coded×};
     ghost use Rattle.hb_io.specs.FakeShelf.{FakeShelf, fake_shelf_code};
 
     ghost Value = { FakeShelf };
