@@ -7,7 +7,7 @@ use Rattle.hb_base.specs.declared.step.Stop.{Stop}
 use Rattle.hb_base.specs.declared.step.Stop.TheVariants.{Done, Halt, Stack, InputEnd, Steps, Illegal, Misaligned, Unmapped, Break, Sink}
 use Rattle.hb_base.specs.Ports.{ArePorts}
 use Rattle.hb_asm.specs.Coding.{decode_of}
-use Rattle.hb_mach.specs.Lines.{AreInputs}
+use Rattle.hb_base.specs.Inputs.{AreInputs}
 
 -- the ends of a machine: the steps allowed and a line that could not be written are none
 abbrev pub is_own : Stop → Bool

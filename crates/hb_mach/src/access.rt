@@ -1,7 +1,7 @@
 ghost use Rattle.std.specs.Prelude.{◌≡◌, ◌<◌, position};
-ghost use Rattle.hb_mach.specs.Arithmetic as arithmetic;
-ghost use Rattle.hb_mach.specs.Arithmetic.{load_size, store_size};
-ghost use Rattle.hb_mach.specs.Lines.{first_value};
+ghost use Rattle.hb_asm.specs.Arithmetic as arithmetic;
+ghost use Rattle.hb_asm.specs.Arithmetic.{load_size, store_size};
+ghost use Rattle.hb_base.specs.Inputs.{first_value};
 ghost use Rattle.hb_mach.specs.Memory.{load, store};
 ghost use Rattle.hb_mach.specs.Table.{is_read_at, is_written_at, loading, loading_memory, loading_port, reading, storing, storing_memory, storing_port};
 ghost use Rattle.hb_script.specs.Lines.{IsShown};

@@ -2,7 +2,7 @@ ghost use Rattle.std.specs.Prelude.{◌≡◌, IsTrue, IfOk, map, option_map};
 ghost use Rattle.hb_asm.specs.Coding.{decode_of};
 ghost use Rattle.hb_base.specs.Ports.{ArePorts};
 ghost use Rattle.hb_image.specs.Rules.{IsImage};
-ghost use Rattle.hb_mach.specs.Lines.{AreInputs};
+ghost use Rattle.hb_base.specs.Inputs.{AreInputs};
 ghost use Rattle.hb_mach.specs.Memory.{byte_at};
 ghost use Rattle.hb_mach.specs.Run.{mach, stop_of};
 ghost use Rattle.hb_mach.specs.Soundness.{IsOwnEnd, is_own};
