@@ -16,7 +16,6 @@ use Rattle.hb_mach.specs.State.{State}
 use Rattle.hb_mach.specs.Table.{table}
 use Rattle.hb_mach.specs.Run.{events, shown, stop_of}
 use Rattle.hb_mach.specs.Running.{lines_shown, Ran, RanToLimit, RanToFault}
-use Rattle.hb_mach.specs.Soundness.{IsOwnEnd, is_own}
 use Rattle.hb_mach.proofs.KeepsLaws.{ports-after}
 use Rattle.hb_mach.proofs.RunLaws.{events-append}
 use Rattle.hb_mach.proofs.RunningLaws.{lines_shown-suc}
@@ -103,18 +102,10 @@ told_line_cut limit old new stop before now f f' r =
     })
     refl
 
--- a run that ends by itself does not end by a line that could not be put
-own_not_sink : (ended : Option Stop) → IsOwnEnd ended → stop_of ended ≡ Sink → ⊥
-own_not_sink None own e = cc
-own_not_sink (Some stop) own e = let h : is_own Sink ≡ true = subst (λ s. IsTrue (is_own s)) e own in cc
-
 pub fault_of : (limit : ℕ) (old new : State) (stop : Stop) (before now : Option (List ℕ)) (f f' : ℕ) → RanToLimit limit old new stop before now f f' ⊎ RanToFault limit old new stop before now f f' → stop ≡ Sink → RanToFault limit old new stop before now f f'
-fault_of limit old new stop before now f f' (inl r) e = absurd (own_not_sink new.ended r.own (sym r.answer ∙ e))
+fault_of limit old new stop before now f f' (inl r) e = absurd (r.no_sink e)
 fault_of limit old new stop before now f f' (inr r) e = r
 
 pub limit_of : (limit : ℕ) (old new : State) (stop : Stop) (before now : Option (List ℕ)) (f f' : ℕ) → RanToLimit limit old new stop before now f f' ⊎ RanToFault limit old new stop before now f f' → (stop ≡ Sink → ⊥) → RanToLimit limit old new stop before now f f'
 limit_of limit old new stop before now f f' (inl r) other = r
 limit_of limit old new stop before now f f' (inr r) other = absurd (other r.answer)
-
-pub named_done : (ports : List Port) (stop : Stop) → stop ≡ Done → IsNamed ports stop
-named_done ports stop e = rw e tt
