@@ -12,7 +12,7 @@ same_shelf : (f f' : Option Files) (r r' w w' : ℕ) → f' ≡ f → r' ≡ r �
 same_shelf f f' r r' w w' ef er ew = cc
 
 stored : (files files' : Option Files) (r r' w w' : ℕ) (name : List ℕ) (image : Image) (state : State) (lines : List ScriptLine) (bytes seen : List ℕ) → state ≡ start image lines → lines ≡ [] → seen ≡ bytes → bytes ≡ spelling image → files' ≡ written files name seen → r' ≡ r → w' ≡ w
-       → Stored (shelved files r w) (shelved files' r' w') name image state
+    → Stored (shelved files r w) (shelved files' r' w') name image state
 stored files files' r r' w w' name image state lines bytes seen es el en eb ef er ew = record {
   loaded = es ∙ ap (start image) el;
   wrote = same_shelf (written files name (spelling image)) files' r r' w w' (ef ∙ ap (written files name) (en ∙ eb)) er ew;
