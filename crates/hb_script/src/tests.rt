@@ -3,12 +3,12 @@ ghost use Rattle.hb_base.specs.Ports.{ArePorts};
 ghost use Rattle.hb_script.specs.Lines.{IsEvent};
 
 use super::*;
-use hb_base::{Dir, List, Memory, Port, Script, Step, Stop, Text};
+use hb_base::{Dir, List, Port, Script, Step, Stop, Text};
 use std::alloc::Global;
 use std::test::Fail;
 
 /// `rx`, to be read, of one byte, and `tx`, to be written, of one byte.
-fn echo_ports(alloc: Global) -> Result<List<Port>, Memory>
+fn echo_ports(alloc: Global) -> Result<List<Port>, Fail>
     ensures rules { IfOk result (λ ports. ArePorts ports) }
     ensures many { IfOk result (λ ports. length ports ≡ 2) }
     ensures rx { IfOk result (λ ports. (value : ℕ) → value < 256 → IsEvent ports 0 value) }
@@ -31,7 +31,7 @@ fn echo_ports(alloc: Global) -> Result<List<Port>, Memory>
 
 /// The number of the wrong line, if there is one.
 fn wrong_line(alloc: Global, script: &[u8]) -> Result<Option<u32>, Fail> {
-    let ports = echo_ports(alloc).map_err(|_: Memory| "no memory")?;
+    let ports = echo_ports(alloc)?;
     match read(alloc, script, &ports) {
         Ok(_) => Ok(None),
         Err(ScriptError::Bad(line)) => Ok(Some(line)),
@@ -40,7 +40,7 @@ fn wrong_line(alloc: Global, script: &[u8]) -> Result<Option<u32>, Fail> {
 }
 
 fn inputs(alloc: Global, script: &[u8]) -> Result<Script, Fail> {
-    let ports = echo_ports(alloc).map_err(|_: Memory| "no memory")?;
+    let ports = echo_ports(alloc)?;
     Ok(read(alloc, script, &ports)?)
 }
 
@@ -83,7 +83,7 @@ fn a_script_too_long_is_line_zero(rt: HostRuntime) -> Result<(), Fail> {
 
 #[test]
 fn events_have_lines(rt: HostRuntime) -> Result<(), Fail> {
-    let ports = echo_ports(rt.alloc()).map_err(|_: Memory| "no memory")?;
+    let ports = echo_ports(rt.alloc())?;
     let mut buffer = [0u8; 128];
     let len = line_text(Step::Read(0, 0x4E), &ports, &mut buffer);
     assert_eq!(rt; &buffer[..len], b"r rx 4E\n".as_slice());
@@ -96,7 +96,7 @@ fn events_have_lines(rt: HostRuntime) -> Result<(), Fail> {
 
 #[test]
 fn ends_have_lines(rt: HostRuntime) -> Result<(), Fail> {
-    let ports = echo_ports(rt.alloc()).map_err(|_: Memory| "no memory")?;
+    let ports = echo_ports(rt.alloc())?;
     let mut buffer = [0u8; 128];
     let len = end_text(Stop::Done, 1, &ports, &mut buffer);
     assert_eq!(rt; &buffer[..len], b"end done 1\n".as_slice());
@@ -105,7 +105,10 @@ fn ends_have_lines(rt: HostRuntime) -> Result<(), Fail> {
     let len = end_text(Stop::InputEnd(0), 20, &ports, &mut buffer);
     assert_eq!(rt; &buffer[..len], b"end input rx 20\n".as_slice());
     let len = end_text(Stop::Misaligned, u64::MAX, &ports, &mut buffer);
-    assert_eq!(rt; &buffer[..len], b"end misaligned 18446744073709551615\n".as_slice());
+    assert_eq!(rt;
+        &buffer[..len],
+        b"end misaligned 18446744073709551615\n".as_slice()
+    );
     assert_eq!(rt; end_text(Stop::Sink, 1, &ports, &mut buffer), 0);
     Ok(())
 }
