@@ -140,11 +140,11 @@ abbrev pub Grown : List Step → Option Stop → Option Stop → Step → Type 0
 Grown trace before now step = GrowsTo (record { trace = trace; end = before }) (record { trace = trace ++ events (step ∷ []); end = now })
 
 grown : (trace : List Step) (before now : Option Stop) (step : Step) → Turn before now step → Grown trace before now step
-grown trace _ _ _ Quiet = rw append-nil (Stays _)
-grown trace _ _ _ (Reads port value) = Shows trace (Read port value)
-grown trace _ _ _ (Writes port value) = Shows trace (Wrote port value)
-grown trace _ _ _ (Stops stop) = rw append-nil (Ends trace stop)
-grown trace _ _ _ (Over stop) = rw append-nil (Stays _)
+grown trace _ _ _ Quiet = rw append-nil (Stays refl)
+grown trace _ _ _ (Reads port value) = Shows (Read port value) refl refl
+grown trace _ _ _ (Writes port value) = Shows (Wrote port value) refl refl
+grown trace _ _ _ (Stops stop) = rw append-nil (Ends stop refl refl)
+grown trace _ _ _ (Over stop) = rw append-nil (Stays refl)
 
 pub shown-suc : (s : State) (n : ℕ) → GrowsTo (shown s n) (shown s (suc n))
 unfolding shown
@@ -155,4 +155,4 @@ shown-suc s n =
 
 pub mach-grows : (image : Image) (lines : List ScriptLine) → Grows (mach image lines)
 unfolding mach shown after answers start
-mach-grows image lines = record { starts = refl; steps = λ n. shown-suc (start image lines) n }
+mach-grows image lines = record { starts = refl; grows = λ n. shown-suc (start image lines) n }

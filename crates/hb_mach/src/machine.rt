@@ -1,5 +1,6 @@
 ghost use Rattle.std.specs.Prelude.{◌≡◌, IsTrue, IfOk, map, option_map};
 ghost use Rattle.hb_asm.specs.Coding.{decode_of};
+ghost use Rattle.hb_base.specs.Ports.{ArePorts};
 ghost use Rattle.hb_image.specs.Rules.{IsImage};
 ghost use Rattle.hb_mach.specs.Lines.{AreInputs};
 ghost use Rattle.hb_mach.specs.Memory.{byte_at};
@@ -103,6 +104,14 @@ impl Machine {
         ensures { result ≡ self.now.done }
     {
         self.done
+    }
+
+    /// The ports of the image.
+    pub fn ports(&self) -> &List<Port>
+        ensures value { result.now ≡ self.now.ports }
+        ensures rules { ArePorts result.now }
+    {
+        &self.ports
     }
 
     /// The byte at an address of an area or of the stack region.

@@ -10,20 +10,20 @@ pub record Outcome (E S : Type 0) : Type 0 where
 abbrev pub nothing_yet : {E S : Type 0} → Outcome E S
 nothing_yet = record { trace = []; end = None }
 
--- one count more: nothing new, one event more, or the end. After an end there is nothing new
-pub data GrowsTo {E S : Type 0} : Outcome E S → Outcome E S → Type 0 where
-  Stays : (o : Outcome E S) → GrowsTo o o
-  Shows : (trace : List E) (event : E) → GrowsTo (record { trace = trace; end = None }) (record { trace = trace ++ event ∷ []; end = None })
-  Ends : (trace : List E) (end : S) → GrowsTo (record { trace = trace; end = None }) (record { trace = trace; end = Some end })
+-- one count more: nothing new, one event more, or the end; after an end there is nothing new
+pub data GrowsTo {E S : Type 0} (o p : Outcome E S) : Type 0 where
+  Stays : p ≡ o → GrowsTo o p
+  Shows : (event : E) → o.end ≡ None → p ≡ record { trace = o.trace ++ event ∷ []; end = None } → GrowsTo o p
+  Ends : (end : S) → o.end ≡ None → p ≡ record { trace = o.trace; end = Some end } → GrowsTo o p
 
 -- a run by counts, from nothing on
 pub record Grows {E S : Type 0} (run : ℕ → Outcome E S) : Type 0 where
   pub starts : run 0 ≡ nothing_yet
-  pub steps : (n : ℕ) → GrowsTo (run n) (run (suc n))
+  pub grows : (n : ℕ) → GrowsTo (run n) (run (suc n))
 
--- whatever the one run shows after n counts, the other shows after some count that is no smaller
-pub record Follows {E S : Type 0} (source target : ℕ → Outcome E S) : Type 0 where
-  pub later : (n : ℕ) → (m : ℕ) × (n ≤ m) × (target m ≡ source n)
+-- whatever the source shows after n counts, the target shows after some count that is no smaller
+abbrev pub Follows : {E S : Type 0} → (ℕ → Outcome E S) → (ℕ → Outcome E S) → Type 0
+Follows source target = (n : ℕ) → (m : ℕ) × (n ≤ m) × (target m ≡ source n)
 
 -- each shows what the other shows
 pub record SameRuns {E S : Type 0} (source target : ℕ → Outcome E S) : Type 0 where
