@@ -9,10 +9,9 @@ use Rattle.hb_asm.specs.declared.instr.StoreOp.TheVariants.{Sb, Sh, Sw}
 use Rattle.hb_base.specs.declared.port.Dir.TheVariants.{In}
 use Rattle.hb_base.specs.declared.port.Port.{Port}
 use Rattle.hb_base.specs.declared.script.ScriptLine.{ScriptLine}
-use Rattle.hb_script.specs.Grammar.{IsInput}
 use Rattle.hb_script.specs.Lines.{IsEvent}
-use Rattle.hb_mach.specs.Arithmetic.{store_size, low_part}
-use Rattle.hb_mach.specs.Lines.{AreInputs, first_value, without_first}
+use Rattle.hb_asm.specs.Arithmetic.{store_size, low_part}
+use Rattle.hb_base.specs.Inputs.{IsInput, AreInputs, first_value, without_first}
 use Rattle.hb_mach.specs.Table.{is_out, is_met_at, is_written_at}
 
 -- ---- lines
