@@ -153,7 +153,7 @@ pub ran_to_limit : (limit : ℕ) (old new : State) (stop : Stop) (before now : O
     → Ran limit old new before now faults_before faults_now → stop ≡ stop_of new.ended → IsOwnEnd new.ended
     → RanToLimit limit old new stop before now faults_before faults_now
 ran_to_limit limit old new stop before now faults_before faults_now ran answer own =
-    record { ran = ran; answer = answer; own = own; steps = rw answer (steps-going new.ended own); no_sink = λ e. no-sink new.ended own (sym answer ∙ e) }
+    record { ran = ran; answer = answer; steps = rw answer (steps-going new.ended own); no_sink = λ e. no-sink new.ended own (sym answer ∙ e) }
 
 pub ran_fails : (n limit : ℕ) (old mid new : State) (first before now : Option (List ℕ)) (faults_first faults_before faults_now : ℕ)
     → n < limit → Ran n old mid first before faults_first faults_before → TurnFails mid new before now faults_before faults_now
