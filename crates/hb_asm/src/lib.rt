@@ -5,9 +5,11 @@ mod decoding;
 mod encoding;
 mod fields;
 mod instr;
+mod part;
 #[cfg(test)]
 mod tests;
 
 pub use decoding::decode;
 pub use encoding::encode;
 pub use instr::{AluOp, BranchOp, Instr, LoadOp, StoreOp};
+pub use part::{Asm, AsmPart};
