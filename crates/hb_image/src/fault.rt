@@ -32,7 +32,7 @@ pub enum ImageError {
     #[error("the image ends early")]
     Short,
     /// The first field that breaks its rule.
-    #[error("a field of the image breaks its rule")]
+    #[error("the field {0:?} of the image breaks its rule")]
     Bad(Field),
     /// Memory ran out.
     #[error("memory ran out")]

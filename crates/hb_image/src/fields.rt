@@ -1,6 +1,6 @@
 //! The fields of an image, each by itself.
 
-ghost use Rattle.std.specs.Prelude.{◌≡◌, ◌≤◌, length};
+ghost use Rattle.std.specs.Prelude.{◌≡◌, ◌≤◌, length, IfOk};
 ghost use Rattle.std.specs.Int.{w16, w32};
 ghost use Rattle.hb_image.specs.Reading.{Gives, bytes_at, byte_at, number_at, magic_at, version_at, count_at, areas_at, stack_at, code_at, kind_at, width_at, length_at};
 
@@ -8,7 +8,9 @@ use crate::fault::{Field, ImageError};
 use hb_base::Dir;
 
 const MOST_BYTES: u32 = 16_777_216;
+
 const LEAST_STACK: u32 = 4_096;
+
 const MOST_WORDS: u32 = 134_201_344;
 
 pub fn bytes_of(bytes: &[u8], count: usize) -> Result<(&[u8], &[u8]), ImageError>
@@ -124,7 +126,8 @@ pub fn kind_of(bytes: &[u8]) -> Result<(Dir, &[u8]), ImageError>
 
 #[tactic(auto, unfolding(crate::specs::Reading::width_at))]
 pub fn width_of(bytes: &[u8]) -> Result<(u8, &[u8]), ImageError>
-    ensures { Gives (λ x. (x.0, x.1.now)) result (width_at bytes.now) }
+    ensures exact { Gives (λ x. (x.0, x.1.now)) result (width_at bytes.now) }
+    ensures wide { IfOk result (λ x. 1 ≤ x.0) }
 {
     let (width, rest) = byte_of(bytes)?;
     if width != 1 && width != 2 && width != 4 {

@@ -5,8 +5,14 @@ mod fault;
 mod fields;
 mod image;
 mod names;
+mod ports;
+mod reading;
 mod writing;
 
 pub use fault::{Field, ImageError};
 pub use image::Image;
+pub use reading::read;
 pub use writing::write;
+
+#[cfg(test)]
+mod tests;

@@ -18,6 +18,14 @@ pub record FakeShelf : Type 0 where
   pub read_faults : ℕ
   pub write_faults : ℕ
 
+-- no file, and no call so far
+abbrev pub empty_shelf : List ℕ → FakeShelf
+empty_shelf failing_calls = record { files = map.empty; failing = failing_calls; calls = 0; read_faults = 0; write_faults = 0 }
+
+-- the shelf with this file put on it, in the place of one of that name
+abbrev pub with_file : FakeShelf → List ℕ → List ℕ → FakeShelf
+with_file shelf name bytes = record shelf { files = map.insert shelf.files name bytes }
+
 -- the next call is one of those that fail
 abbrev pub fails : FakeShelf → Bool
 fails shelf = list_any (λ call. call == raised shelf.calls) shelf.failing
@@ -38,7 +46,7 @@ after_read shelf (Err Memory) = called shelf
 
 -- the shelf after a write of these bytes with this answer
 abbrev pub after_write : {T : Type 0} → FakeShelf → List ℕ → List ℕ → Result T ShelfError → FakeShelf
-after_write shelf name bytes (Ok done) = record (called shelf) { files = map.insert shelf.files name bytes }
+after_write shelf name bytes (Ok done) = with_file (called shelf) name bytes
 after_write shelf name bytes (Err Failed) = record (called shelf) { write_faults = raised shelf.write_faults }
 after_write shelf name bytes (Err Memory) = called shelf
 

@@ -1,5 +1,5 @@
 -- A sink in memory: what it holds, and what one put does to it.
-use Rattle.std.specs.Prelude.{ℕ, ◌-◌, ◌/◌, ◌==◌, Bool, ◌||◌, not, nat_le, if◌then◌else◌, min, List, ◌++◌, length, take}
+use Rattle.std.specs.Prelude.{ℕ, ◌-◌, ◌/◌, ◌==◌, Bool, ◌||◌, not, nat_le, if◌then◌else◌, min, List, [], ◌++◌, length, take}
 use Rattle.std.specs.List.{list_any}
 use Rattle.hb_io.specs.Counts.{raised}
 
@@ -11,6 +11,10 @@ pub record FakeSink : Type 0 where
   pub failing : List ℕ
   pub puts : ℕ
   pub faults : ℕ
+
+-- nothing taken, and no put so far
+abbrev pub empty_sink : ℕ → List ℕ → FakeSink
+empty_sink room_for failing_puts = record { bytes = []; space = room_for; failing = failing_puts; puts = 0; faults = 0 }
 
 -- the next put is one of those that fail
 abbrev pub fails : FakeSink → Bool

@@ -3,7 +3,7 @@ ghost use Rattle.std.specs.Option.{option_copied};
 ghost use Rattle.std.specs.FinMap as map;
 ghost use Rattle.hb_io.specs.Answers.{OnFailed, UnlessFailed, OnMemory};
 ghost use Rattle.hb_io.specs.Counts.{Rose};
-ghost use Rattle.hb_io.specs.FakeShelf.{fails, reads, after_read, after_write};
+ghost use Rattle.hb_io.specs.FakeShelf.{empty_shelf, with_file, fails, reads, after_read, after_write};
 ghost use Rattle.hb_io.specs.StoredFiles.{files_of};
 ghost use Rattle.hb_io.specs.Files.{written, without, HoldsFront};
 
@@ -24,7 +24,6 @@ pub struct MemShelf {
 }
 
 impl Model for MemShelf {
-    ghost use Rattle.std.specs.Coded.{code_by, coded_ℕ, coded_list, coded×};
     ghost use Rattle.hb_io.specs.FakeShelf.{FakeShelf, fake_shelf_code};
 
     ghost Value = { FakeShelf };
@@ -33,14 +32,20 @@ impl Model for MemShelf {
 
     ghost use Rattle.hb_io.specs.StoredFiles.{files_of};
 
-    ghost view = { λ s. record { files = files_of s.files; failing = s.failing.items; calls = s.calls; read_faults = s.read_faults; write_faults = s.write_faults } };
+    ghost view = { λ s. record {
+      files = files_of s.files;
+      failing = s.failing.items;
+      calls = s.calls;
+      read_faults = s.read_faults;
+      write_faults = s.write_faults;
+    } };
 }
 
 impl MemShelf {
     /// A shelf without files. The k-th call of `read` and `write` together fails, counted from 1, where k is in
     /// `failing`.
     pub fn new(alloc: Global, failing: &[u64]) -> Result<MemShelf, AllocError>
-        ensures { IfOk result (λ shelf. shelf ≡ record { files = map.empty; failing = failing.now; calls = 0; read_faults = 0; write_faults = 0 }) }
+        ensures { IfOk result (λ shelf. shelf ≡ empty_shelf failing.now) }
     {
         Ok(MemShelf {
             files: BTreeMap::new(alloc),
@@ -54,7 +59,7 @@ impl MemShelf {
 
     /// Puts a file on the shelf, in the place of one of that name. It counts as no call.
     pub fn add(&mut self, name: &str, bytes: &[u8]) -> Result<(), AllocError>
-        ensures ok { OnOk result (self.new ≡ record self.old { files = map.insert self.old.files name.now bytes.now }) }
+        ensures ok { OnOk result (self.new ≡ with_file self.old name.now bytes.now) }
         ensures err { OnErr result (self.new ≡ self.old) }
     {
         let name = String::from_str(self.alloc, name)?;

@@ -1,6 +1,6 @@
-ghost use Rattle.std.specs.Prelude.{◌≡◌, ◌≤◌, ℕ, [], ◌++◌, length, Some, OnOk, OnErr, IfOk, is_err};
+ghost use Rattle.std.specs.Prelude.{◌≡◌, ◌≤◌, length, Some, OnOk, OnErr, IfOk, is_err};
 ghost use Rattle.hb_io.specs.Counts.{Rose};
-ghost use Rattle.hb_io.specs.FakeSink.{after_put, refuses};
+ghost use Rattle.hb_io.specs.FakeSink.{empty_sink, after_put, refuses};
 ghost use Rattle.hb_io.specs.Taken.{appended, TookFront};
 
 use crate::sink::{Failed, Sink};
@@ -23,7 +23,13 @@ impl Model for MemSink {
 
     ghost Value = { FakeSink };
 
-    ghost view = { λ s. record { bytes = s.bytes.items; space = s.space; failing = s.failing.items; puts = s.puts; faults = s.faults } };
+    ghost view = { λ s. record {
+      bytes = s.bytes.items;
+      space = s.space;
+      failing = s.failing.items;
+      puts = s.puts;
+      faults = s.faults;
+    } };
 
     ghost invariant = { λ s. (length s.bytes.items ≤ s.space) × (s.space ≤ vec_capacity s.bytes) };
 }
@@ -31,7 +37,7 @@ impl Model for MemSink {
 impl MemSink {
     /// An empty sink with room for `space` bytes. Its k-th put fails, counted from 1, where k is in `failing`.
     pub fn new(alloc: Global, space: usize, failing: &[u64]) -> Result<MemSink, AllocError>
-        ensures { IfOk result (λ sink. sink ≡ record { bytes = []; space = space; failing = failing.now; puts = 0; faults = 0 }) }
+        ensures { IfOk result (λ sink. sink ≡ empty_sink space failing.now) }
     {
         Ok(MemSink {
             bytes: Vec::with_capacity(alloc, space)?,

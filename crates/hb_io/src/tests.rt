@@ -64,21 +64,21 @@ fn a_missing_name_is_a_fault_and_the_cap_cuts_a_file(rt: HostRuntime) -> Result<
 
 #[test]
 fn a_real_file_is_written_read_and_cut(rt: HostRuntime) -> Result<(), Fail> {
+    let path = format!(in rt.alloc(); "/tmp/hb_io_{}", std::process::id(rt.process()))?;
+    let name = path.as_str();
     let mut shelf = DirShelf::new(rt.clone()?);
+    assert_eq!(rt; shelf.write(name, b"first, and longer"), Ok(()));
+    assert_eq!(rt; shelf.write(name, b"second"), Ok(()));
     assert_eq!(rt;
-        shelf.write("/tmp/hb_io_a_real_file.txt", b"first, and longer"),
-        Ok(())
+        shelf.read(rt.alloc(), name, 100)?.as_slice(),
+        b"second".as_slice()
     );
     assert_eq!(rt;
-        shelf.write("/tmp/hb_io_a_real_file.txt", b"second"),
-        Ok(())
+        shelf.read(rt.alloc(), name, 3)?.as_slice(),
+        b"sec".as_slice()
     );
-    let whole = shelf.read(rt.alloc(), "/tmp/hb_io_a_real_file.txt", 100)?;
-    assert_eq!(rt; whole.as_slice(), b"second".as_slice());
-    let front = shelf.read(rt.alloc(), "/tmp/hb_io_a_real_file.txt", 3)?;
-    assert_eq!(rt; front.as_slice(), b"sec".as_slice());
-    std::fs::remove_file(&rt, "/tmp/hb_io_a_real_file.txt")?;
-    let missing = shelf.read(rt.alloc(), "/tmp/hb_io_a_real_file.txt", 3);
+    std::fs::remove_file(&rt, name)?;
+    let missing = shelf.read(rt.alloc(), name, 3);
     assert!(rt; matches!(missing, Err(ShelfError::Failed)));
     assert_eq!(rt;
         shelf.write("/tmp/hb_io/no/such/folder", b""),

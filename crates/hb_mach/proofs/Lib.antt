@@ -1,6 +1,9 @@
 pub mod FetchLaws
+pub mod KeepsLaws
 pub mod LittleLaws
 pub mod MemoryLaws
 pub mod PortLaws
 pub mod RunLaws
+pub mod RunningLaws
+pub mod ScriptLaws
 pub mod WaitingLaws

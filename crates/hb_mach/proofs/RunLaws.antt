@@ -1,5 +1,5 @@
 -- What a run shows grows by at most one event or the end a step.
-use Rattle.std.proofs.Common.{◌≡◌, ℕ, zero, suc, ◌%◌, ◌==◌, Bool, true, false, if◌then◌else◌, List, [], ◌∷◌, ◌++◌, Option, Some, None, refl, ap, sym, ◌∙◌, filter, position, append-nil}
+use Rattle.std.proofs.Common.{◌≡◌, ℕ, zero, suc, ◌%◌, ◌==◌, Bool, true, false, if◌then◌else◌, List, [], ◌∷◌, ◌++◌, Option, Some, None, refl, ap, position, append-nil}
 use Rattle.hb_asm.specs.declared.instr.Instr.{Instr}
 use Rattle.hb_asm.specs.declared.instr.Instr.TheVariants.{Lui, Auipc, Jal, Jalr, Branch, Load, Store, OpImm, Op, Fence, Ecall, Ebreak}
 use Rattle.hb_asm.specs.declared.instr.LoadOp.{LoadOp}
@@ -10,14 +10,14 @@ use Rattle.hb_base.specs.declared.step.Step.TheVariants.{Going, Read, Wrote, End
 use Rattle.hb_base.specs.declared.step.Stop.{Stop}
 use Rattle.hb_base.specs.declared.step.Stop.TheVariants.{Misaligned, Unmapped, InputEnd, Illegal, Break}
 use Rattle.hb_image.specs.declared.image.Image.{Image}
-use Rattle.hb_runs.specs.Outcome.{Outcome, nothing_yet, GrowsTo, Stays, Shows, Ends, Grows}
+use Rattle.hb_runs.specs.Outcome.{GrowsTo, Stays, Shows, Ends, Grows}
 use Rattle.hb_runs.specs.Stepping.{after, answers}
-use Rattle.hb_mach.specs.Arithmetic.{load_size, store_size, is_taken, extended, low_part}
+use Rattle.hb_mach.specs.Arithmetic.{load_size, store_size, extended, low_part}
 use Rattle.hb_mach.specs.Lines.{first_value}
 use Rattle.hb_mach.specs.Memory.{Memory, load, store}
-use Rattle.hb_mach.specs.State.{State, start, register}
-use Rattle.hb_mach.specs.Table.{table, running, fetched, execute, computed, branching, jumping, loading, loading_memory, loading_port, reading, storing, storing_memory, storing_port, ending, called, from_here, sum_with, even, is_read_at, is_written_at, instruction_at_pc}
-use Rattle.hb_mach.specs.Run.{events, is_event, shown, mach}
+use Rattle.hb_mach.specs.State.{State, start}
+use Rattle.hb_mach.specs.Table.{table, running, fetched, execute, computed, branching, jumping, loading, loading_memory, loading_port, reading, storing, storing_memory, storing_port, ending, is_read_at, is_written_at, instruction_at_pc}
+use Rattle.hb_mach.specs.Run.{events, shown, mach}
 
 -- the end before a step, the end after it, and what it answers
 pub data Turn : Option Stop → Option Stop → Step → Type 0 where

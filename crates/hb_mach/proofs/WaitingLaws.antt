@@ -1,10 +1,10 @@
 -- Taking a port's first waiting line.
-use Rattle.std.proofs.Common.{◌⊎◌, inl, inr, ◌≡◌, ◌≢◌, ℕ, zero, suc, ◌+◌, ◌<◌, ◌≤◌, Bool, true, false, ◌==◌, if◌then◌else◌, nat_le, List, [], ◌∷◌, length, replicate, slice_get, slice_index, slice_set, Option, Some, None, is_some, refl, ap, sym, ◌∙◌, arith, get_or-set_same, get_or-set_other, get_or}
+use Rattle.std.proofs.Common.{◌⊎◌, inl, inr, ◌≡◌, ℕ, zero, suc, ◌+◌, ◌<◌, ◌≤◌, Bool, true, false, ◌==◌, if◌then◌else◌, nat_le, List, [], ◌∷◌, length, replicate, slice_get, slice_index, slice_set, Some, None, refl, ap, sym, ◌∙◌, arith, get_or-set_same, get_or-set_other, get_or}
 use Rattle.std.proofs.lemmas.Option.{slice_get_read, slice_get-get_or}
-use Rattle.std.proofs.lemmas.Bool.{cases_eq, cases_Bool, cases_lt, leb-true, leb-false, le-leb, lt-leb, eqb-true, eqb-false, eq-eqb, ne_eqb, false≢true}
+use Rattle.std.proofs.lemmas.Bool.{cases_eq, cases_Bool, cases_lt, leb-true, le-leb, lt-leb, eqb-true, eqb-false, false≢true}
 use Rattle.hb_base.specs.declared.script.ScriptLine.{ScriptLine}
 use Rattle.hb_mach.specs.Lines.{first_value, without_first}
-use Rattle.hb_mach.specs.Waiting.{waiting, names, NoneBetween, IsFirstFrom, is_of}
+use Rattle.hb_mach.specs.Waiting.{waiting, names, NoneBetween, IsFirstFrom}
 
 -- ---- the start: every line waits
 

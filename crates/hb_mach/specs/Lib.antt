@@ -2,7 +2,9 @@ pub mod Arithmetic
 pub mod Lines
 pub mod Memory
 pub mod Run
+pub mod Running
+pub mod Soundness
 pub mod State
 pub mod Table
+pub mod Turns
 pub mod Waiting
-pub mod Soundness

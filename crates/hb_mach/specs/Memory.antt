@@ -1,5 +1,5 @@
 -- The bytes that loads and stores reach, by the memory map: the areas from 20000000 on, and the stack region up to 40000000.
-use Rattle.std.specs.Prelude.{◌≡◌, ℕ, zero, suc, ◌+◌, ◌-◌, ◌*◌, ◌/◌, ◌%◌, ◌≤◌, Bool, ◌&&◌, nat_le, if◌then◌else◌, List, length, replicate, slice_get, slice_index, slice_set, Option, Some, None, is_some}
+use Rattle.std.specs.Prelude.{ℕ, zero, suc, ◌+◌, ◌-◌, ◌*◌, ◌/◌, ◌%◌, ◌≤◌, Bool, ◌&&◌, nat_le, if◌then◌else◌, List, length, replicate, slice_get, slice_index, slice_set, Option, Some, None, is_some}
 
 -- bytes at one address after another
 pub record Region : Type 0 where

@@ -1,8 +1,7 @@
 -- The machine's table, after the RISC-V unprivileged ISA: what one step of RV32I does to the state, and what it shows.
-use Rattle.std.specs.Prelude.{ℕ, ◌+◌, ◌-◌, ◌*◌, ◌/◌, ◌%◌, ◌^◌, min, Bool, true, false, ◌&&◌, ◌==◌, nat_le, if◌then◌else◌, List, slice_get, Option, Some, None, position, option_map, ℤ}
+use Rattle.std.specs.Prelude.{ℕ, ◌+◌, ◌-◌, ◌*◌, ◌/◌, ◌%◌, ◌^◌, min, Bool, true, false, ◌&&◌, ◌==◌, nat_le, if◌then◌else◌, slice_get, Option, Some, None, position, option_map, ℤ}
 use Rattle.hb_asm.specs.declared.instr.Instr.{Instr}
 use Rattle.hb_asm.specs.declared.instr.Instr.TheVariants.{Lui, Auipc, Jal, Jalr, Branch, Load, Store, OpImm, Op, Fence, Ecall, Ebreak}
-use Rattle.hb_asm.specs.declared.instr.AluOp.{AluOp}
 use Rattle.hb_asm.specs.declared.instr.LoadOp.{LoadOp}
 use Rattle.hb_asm.specs.declared.instr.StoreOp.{StoreOp}
 use Rattle.hb_base.specs.declared.port.Dir.{Dir}

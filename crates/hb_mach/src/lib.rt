@@ -2,6 +2,7 @@
 //! RISC-V unprivileged ISA. Its table is `specs/Table.antt`.
 #![tactic(auto)]
 
+mod access;
 mod arithmetic;
 mod inputs;
 mod little;
@@ -10,5 +11,10 @@ mod ports;
 mod ram;
 mod region;
 mod registers;
+mod run;
+mod step;
+#[cfg(test)]
+mod tests;
+mod turn;
 
 pub use machine::Machine;

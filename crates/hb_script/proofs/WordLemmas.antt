@@ -15,7 +15,7 @@ chosen : (b : Bool) (k n : ℕ) → cond b (Some k) None ≡ Some n → (b ≡ t
 chosen true k n e = (refl, cc)
 chosen false k n e = absurd cc
 
-abbrev none : Option ℕ
+abbrev pub none : Option ℕ
 none = None
 
 missed : (b : Bool) (k : ℕ) → cond b (Some k) None ≡ none → b ≡ false
@@ -74,13 +74,13 @@ pub record BeginsWord (line : List ℕ) : Type 0 where
   pub is : line ≡ first ∷ others
   pub plain : is_blank first ≡ false
 
-abbrev is_word : List ℕ → Bool
+abbrev pub is_word : List ℕ → Bool
 is_word word = ltb 0 (length word)
 
-kept : (word : List ℕ) (parts : List (List ℕ)) → 0 < length word → filter is_word (word ∷ parts) ≡ word ∷ filter is_word parts
+pub kept : (word : List ℕ) (parts : List (List ℕ)) → 0 < length word → filter is_word (word ∷ parts) ≡ word ∷ filter is_word parts
 kept word parts more = cond-true (is_word word) (word ∷ filter is_word parts) (filter is_word parts) (lt-ltb 0 (length word) more)
 
-blank_skipped : (c : ℕ) (cs : List ℕ) → is_blank c ≡ true → words (c ∷ cs) ≡ words cs
+pub blank_skipped : (c : ℕ) (cs : List ℕ) → is_blank c ≡ true → words (c ∷ cs) ≡ words cs
 blank_skipped c cs e = ap (filter is_word) (slice_split-cons_yes is_blank c cs e)
 
 skipped : (b : Bool) (c : ℕ) (cs : List ℕ) → is_blank c ≡ b → words (drop (position_or_len is_no_blank cs) cs) ≡ words cs
@@ -111,10 +111,10 @@ word_begins line n e =
       record { first = get_or line n 0; others = drop (n + 1) line; is = drop_more line n 0 h.0; plain = opposite (is_blank (get_or line n 0)) passes },
     )
 
-begins_long : (line : List ℕ) → BeginsWord line → 0 < length line
+pub begins_long : (line : List ℕ) → BeginsWord line → 0 < length line
 begins_long line begins = rw begins.is (omega arith)
 
-begins_apart : (line : List ℕ) → BeginsWord line → 0 < position_or_len is_blank line
+pub begins_apart : (line : List ℕ) → BeginsWord line → 0 < position_or_len is_blank line
 begins_apart line begins = rw (begins.is, begins.plain) (omega arith)
 
 pub one_word : (line : List ℕ) → BeginsWord line → position is_blank line ≡ none → words line ≡ line ∷ []

@@ -1,3 +1,4 @@
 pub mod Ends
+pub mod Grammar
 pub mod Lines
 pub mod Scripts

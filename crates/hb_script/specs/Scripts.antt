@@ -95,11 +95,11 @@ unfoldable pub script_of : List Port → List ℕ → Result (List ScriptLine) �
 script_of ports bytes = if nat_lt most_bytes (length bytes) then Err 0 else inputs_from ports 1 (lines bytes)
 
 -- the error of a script whose reading gives this number, unless memory ran out
-abbrev pub IsFault : Result (List ScriptLine) ℕ → ScriptError → Type 0
-IsFault reading (Bad number) = reading ≡ Err number
-IsFault reading Memory = Unit {0}
+abbrev pub Fails : Result (List ScriptLine) ℕ → ScriptError → Type 0
+Fails reading (Bad number) = reading ≡ Err number
+Fails reading Memory = Unit {0}
 
 -- what was read is what the reading gives, unless memory ran out
 abbrev pub Gives : Result Script ScriptError → Result (List ScriptLine) ℕ → Type 0
 Gives (Ok script) reading = reading ≡ Ok script.lines
-Gives (Err error) reading = IsFault reading error
+Gives (Err error) reading = Fails reading error

@@ -14,3 +14,6 @@ pub use end::end_text;
 pub use fault::ScriptError;
 pub use line::line_text;
 pub use reading::read;
+
+#[cfg(test)]
+mod tests;

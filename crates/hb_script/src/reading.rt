@@ -1,6 +1,8 @@
-ghost use Rattle.std.specs.Prelude.{◌≡◌, ◌++◌, ◌∷◌, [], OnOk, IfOk, IfErr, Ok};
+ghost use Rattle.std.specs.Prelude as prelude;
+ghost use Rattle.std.specs.Prelude.{◌++◌, [], ◌∷◌, All, IfOk, IfErr, Ok};
 ghost use Rattle.hb_base.specs.Ports.{ArePorts};
-ghost use Rattle.hb_script.specs.Scripts.{script_of, Gives, IsFault};
+ghost use Rattle.hb_script.specs.Grammar.{Spells, IsInput, IsFault};
+ghost use Rattle.hb_script.specs.Scripts.{script_of, Gives};
 
 use crate::content::{Content, read_line};
 use crate::fault::ScriptError;
@@ -39,10 +41,16 @@ fn inputs_of(alloc: Global, bytes: &[u8], ports: &List<Port>) -> Result<Script, 
 /// The inputs that the bytes spell, a line each, at the ports of an image.
 pub fn read(alloc: Global, bytes: &[u8], ports: &List<Port>) -> Result<Script, ScriptError>
     requires { ArePorts ports.now }
-    // What is read is what the script says.
-    ensures found { IfOk result (λ script. script_of ports.now bytes.now ≡ Ok script.lines) }
-    // Which line is the first wrong one, unless memory runs out.
-    ensures faults { IfErr result (IsFault (script_of ports.now bytes.now)) }
+    // What is read is spelled so.
+    ensures found { IfOk result (λ script. Spells ports.now bytes.now script.lines) }
+    // Each input is one of an In port, and has its width.
+    ensures inputs { IfOk result (λ script. All (IsInput ports.now) script.lines) }
+    // What is spelled so is read, unless memory runs out.
+    ensures only { (inputs : prelude.List ScriptLine) → Spells ports.now bytes.now inputs → Gives result (Ok inputs) }
+    // The number of the first line that is none of a script, or 0 where the script is too long.
+    ensures faults { IfErr result (IsFault ports.now bytes.now) }
+    // The same as a function of the bytes.
+    ensures exact { Gives result (script_of ports.now bytes.now) }
 {
     inputs_of(alloc, bytes, ports)
 }

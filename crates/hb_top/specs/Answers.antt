@@ -12,9 +12,9 @@ use Rattle.hb_top.specs.declared.failure.Failure.{Failure}
 use Rattle.hb_top.specs.declared.failure.Failure.TheVariants.{Words, Refused, Script, Read, Write, Memory}
 use Rattle.hb_top.specs.Words.{Command}
 use Rattle.hb_top.specs.Texts.{words_line, refusal_line, script_line, read_line, write_line, text_of, standard_steps, stop_after}
-use Rattle.hb_top.specs.World.{World}
+use Rattle.hb_top.specs.World.{World, Printed}
 use Rattle.hb_top.specs.Preparing.{Compiles, FailsBy}
-use Rattle.hb_top.specs.Executing.{Puts}
+use Rattle.hb_top.specs.Executing.{Puts, Tells}
 
 -- the line of a failure; for want of memory there is none
 abbrev pub line_of : Failure → List ℕ
@@ -24,6 +24,23 @@ line_of Script = script_line
 line_of Read = read_line
 line_of Write = write_line
 line_of Memory = []
+
+abbrev pub status_of_failure : Failure → ℕ
+status_of_failure Words = 2
+status_of_failure (Refused refusal) = 1
+status_of_failure Script = 3
+status_of_failure Read = 4
+status_of_failure Write = 5
+status_of_failure Memory = 12
+
+-- for want of memory nothing is put
+abbrev pub TellsFailure : Failure → Printed → Printed → ℕ → Type 0
+TellsFailure Words old new status = Tells words_line 2 old new status
+TellsFailure (Refused refusal) old new status = Tells (refusal_line refusal) 1 old new status
+TellsFailure Script old new status = Tells script_line 3 old new status
+TellsFailure Read old new status = Tells read_line 4 old new status
+TellsFailure Write old new status = Tells write_line 5 old new status
+TellsFailure Memory old new status = (new ≡ old) × (status ≡ 12)
 
 -- the command failed so, and its line was put
 pub record Reports (words : List (List ℕ)) (failure : Failure) (old new : World) : Type 0 where

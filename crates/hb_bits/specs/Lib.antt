@@ -1,0 +1,6 @@
+pub mod Bits
+pub mod BitsLaws
+pub mod Members
+pub mod MembersLaws
+pub mod OfCube
+pub mod OfPattern

@@ -1,0 +1,4 @@
+pub mod Answering
+pub mod Products
+pub mod Sums
+pub mod Powers

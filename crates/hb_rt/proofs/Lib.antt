@@ -1,0 +1,5 @@
+mod Slots
+mod Walk
+mod MultiplyWalk
+mod DivideWalk
+pub mod Steps

@@ -1,0 +1,3 @@
+pub mod Routine
+pub mod Multiply
+pub mod Divide
