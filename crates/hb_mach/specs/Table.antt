@@ -19,6 +19,7 @@ use Rattle.hb_mach.specs.State.{State, code_base, register, with_register}
 
 -- ---- how a step may leave the state
 
+-- one step more, as far as they are counted
 abbrev pub counted : ℕ → ℕ
 counted done = min (done + 1) (2 ^ 64 - 1)
 
@@ -58,7 +59,6 @@ even number = number - number % 2
 
 -- ---- ports
 
--- the port is met at exactly its address, with exactly its width
 abbrev pub is_in : Dir → Bool
 is_in In = true
 is_in Out = false
@@ -67,6 +67,7 @@ abbrev pub is_out : Dir → Bool
 is_out In = false
 is_out Out = true
 
+-- at exactly its address, with exactly its width
 abbrev pub is_met_at : ℕ → ℕ → Port → Bool
 is_met_at address size port = (port.address == address) && (port.width == size)
 
@@ -88,6 +89,7 @@ unfoldable pub loading_port : Option ℕ → LoadOp → ℕ → State → State 
 loading_port None op rd s = ending Unmapped s
 loading_port (Some port) op rd s = reading (first_value port s.lines) port op rd s
 
+-- a load reads memory where all its bytes stand there, and otherwise a port
 unfoldable pub loading_memory : Option ℕ → LoadOp → ℕ → ℕ → State → State × Step
 loading_memory (Some number) op rd address s = computed rd (extended op number) s
 loading_memory None op rd address s = loading_port (position (is_read_at address (load_size op)) s.ports) op rd s
@@ -103,6 +105,7 @@ unfoldable pub storing_port : Option ℕ → ℕ → State → State × Step
 storing_port None word s = ending Unmapped s
 storing_port (Some port) word s = (goes_on s, Wrote port word)
 
+-- a store writes memory where all its bytes stand there, and otherwise a port
 unfoldable pub storing_memory : Option Memory → StoreOp → ℕ → ℕ → State → State × Step
 storing_memory (Some memory) op address word s = (goes_on (record s { memory = memory }), Going)
 storing_memory None op address word s = storing_port (position (is_written_at address (store_size op)) s.ports) (low_part op word) s
