@@ -11,22 +11,20 @@ use Rattle.hb_mach.specs.State.{State}
 use Rattle.hb_mach.specs.Table.{table, running}
 use Rattle.hb_mach.proofs.RunLaws.{events-append}
 
--- so many steps lead there, show these events, and raise the count of steps by no more
+-- so many steps lead there, and show these events
 pub record Goes (from : State) (count : ℕ) (seen : List Step) (to : State) : Type 0 where
   pub arrives : after table count from ≡ to
   pub shows : events (answers table count from) ≡ seen
-  pub spends : to.done ≤ from.done + count
 
 pub nowhere : (s : State) → Goes s 0 [] s
 unfolding after answers
-nowhere s = record { arrives = refl; shows = refl; spends = omega arith }
+nowhere s = record { arrives = refl; shows = refl }
 
-pub one_step : (s t : State) (answer : Step) → table s ≡ (t, answer) → t.done ≤ s.done + 1 → Goes s 1 (events (answer ∷ [])) t
+pub one_step : (s t : State) (answer : Step) → table s ≡ (t, answer) → Goes s 1 (events (answer ∷ [])) t
 unfolding after answers
-one_step s t answer e spends = record {
+one_step s t answer e = record {
   arrives = ap (λ (r : State × Step). r.0) e;
   shows = ap (λ (r : State × Step). events (r.1 ∷ [])) e;
-  spends = spends;
 }
 
 -- one way after another
@@ -37,7 +35,6 @@ together s t u m n before later g h = record {
       ap events (answers-add table m n s) ∙ events-append (answers table m s) (answers table n (after table m s))
       ∙ ap (λ (es : List Step). es ++ events (answers table n (after table m s))) g.shows
       ∙ ap (λ (v : State). before ++ events (answers table n v)) g.arrives ∙ ap (λ (es : List Step). before ++ es) h.shows;
-  spends = omega (arith, g.spends, h.spends);
 }
 
 -- events and then what is shown after them
@@ -64,7 +61,7 @@ stays_over stop s e = ap (λ ended. running ended s) e
 
 pub over : (n : ℕ) (stop : Stop) (s : State) → s.ended ≡ Some stop → Goes s n [] s
 over zero stop s e = nowhere s
-over (suc n) stop s e = subst (λ (count : ℕ). Goes s count [] s) (plus_one n) (together s s s n 1 [] [] (over n stop s e) (one_step s s (Ended stop) (stays_over stop s e) (omega arith)))
+over (suc n) stop s e = subst (λ (count : ℕ). Goes s count [] s) (plus_one n) (together s s s n 1 [] [] (over n stop s e) (one_step s s (Ended stop) (stays_over stop s e)))
   where
     plus_one : (n : ℕ) → n + 1 ≡ suc n
     plus_one n = omega arith

@@ -166,7 +166,7 @@ pub record Halts (stop : Stop) (count : ℕ) (s : State) : Type 0 where
 halts_now : (stop : Stop) (s : State) → table s ≡ ending stop s → Halts stop 1 s
 halts_now stop s e = record {
   next = record s { ended = Some stop; done = counted s.done };
-  goes = one_step s (record s { ended = Some stop; done = counted s.done }) (Ended stop) e (omega arith);
+  goes = one_step s (record s { ended = Some stop; done = counted s.done }) (Ended stop) e;
   ended = refl;
 }
 
@@ -225,7 +225,7 @@ gives ports stack left words lines address width place value s m found v small =
     ∙ ap (λ (ls : List ScriptLine). (goes_on (changed s.registers ls s.memory s), Wrote place (value % 2 ^ (8 * width)))) m.is.waiting in
     record {
       next = next;
-      goes = one_step s next (Wrote place (value % 2 ^ (8 * width))) e (omega arith);
+      goes = one_step s next (Wrote place (value % 2 ^ (8 * width))) e;
       is = on ports stack instr left words words lines lines s.registers s.memory s m.is m.is.wide m.is.frame;
     }
 

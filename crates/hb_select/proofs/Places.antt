@@ -102,9 +102,6 @@ on ports stack instr left words words' lines lines' registers memory s is wide f
   frame = frame;
 }
 
-counted-most : (done : ℕ) → counted done ≤ done + 1
-counted-most done = omega arith
-
 -- ---- one register gets a value, and the others stay
 
 pub record Puts (ports : List Port) (stack : ℕ) (left : List Instr) (words : List ℕ) (lines : List ScriptLine) (register value count : ℕ) (seen : List Step) (s : State) : Type 0 where
@@ -120,7 +117,7 @@ pub put_one : (ports : List Port) (stack : ℕ) (instr : Instr) (left : List Ins
     → Puts ports stack left words lines' register value 1 (events (answer ∷ [])) s
 put_one ports stack instr left words lines lines' register value answer s is r e = record {
   next = goes_on (changed (slice_set s.registers register value) lines' s.memory s);
-  goes = one_step s (goes_on (changed (slice_set s.registers register value) lines' s.memory s)) answer e (counted-most s.done);
+  goes = one_step s (goes_on (changed (slice_set s.registers register value) lines' s.memory s)) answer e;
   is = on ports stack instr left words words lines lines' (slice_set s.registers register value) s.memory s is (length-set s.registers register value ∙ is.wide) is.frame;
   puts = get_or-set_same s.registers register value 0 (omega (arith, is.wide));
   others = λ q h. get_or-set_other s.registers register q value 0 h;
