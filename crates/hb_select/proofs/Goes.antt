@@ -1,5 +1,5 @@
 -- How the machine goes from one state to another in some number of steps.
-use Rattle.std.proofs.Common.{◌≡◌, ℕ, zero, suc, ◌+◌, ◌≤◌, List, [], ◌∷◌, ◌++◌, Option, Some, refl, ap, ◌∙◌, subst, arith}
+use Rattle.std.proofs.Common.{◌≡◌, ℕ, zero, suc, ◌+◌, List, [], ◌∷◌, ◌++◌, Option, Some, refl, ap, ◌∙◌, subst, arith}
 use Rattle.hb_base.specs.declared.step.Step.{Step}
 use Rattle.hb_base.specs.declared.step.Step.TheVariants.{Ended}
 use Rattle.hb_base.specs.declared.step.Stop.{Stop}

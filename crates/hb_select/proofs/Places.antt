@@ -13,7 +13,7 @@ use Rattle.hb_mach.specs.Arithmetic.{wrapped}
 use Rattle.hb_mach.specs.Memory.{Memory}
 use Rattle.hb_mach.specs.Run.{events}
 use Rattle.hb_mach.specs.State.{State}
-use Rattle.hb_mach.specs.Table.{table, running, fetched, execute, computed, goes_on, counted, word_at_pc}
+use Rattle.hb_mach.specs.Table.{table, running, fetched, execute, computed, goes_on, word_at_pc}
 use Rattle.hb_select.proofs.Goes.{Goes, one_step, together}
 use Rattle.hb_select.proofs.Frames.{IsFrame}
 
