@@ -48,7 +48,7 @@ fn a_source_of_the_greatest_size_runs_and_one_byte_more_is_refused(
 ) -> Result<(), Fail> {
     let alloc = rt.alloc();
     let mut source = Vec::from_slice(alloc, ONE_WRITE)?;
-    while source.len() < MOST_BYTES {
+    for _ in ONE_WRITE.len()..MOST_BYTES {
         source.push(b' ')?;
     }
     let whole = run(&rt, alloc, source.as_slice());

@@ -1,3 +1,4 @@
 pub mod formers
 pub mod PortName
 pub mod Ports
+pub mod Inputs

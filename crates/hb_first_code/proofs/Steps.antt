@@ -11,7 +11,7 @@ use Rattle.hb_asm.specs.InRange.{InRange}
 use Rattle.hb_asm.proofs.Coding.{decode-code}
 use Rattle.hb_base.specs.declared.step.Step.TheVariants.{Going, Wrote}
 use Rattle.hb_base.specs.declared.step.Stop.TheVariants.{Done}
-use Rattle.hb_mach.specs.Arithmetic.{wrapped, unsigned, alu_of, store_size, low_part}
+use Rattle.hb_asm.specs.Arithmetic.{wrapped, unsigned, alu_of, store_size, low_part}
 use Rattle.hb_mach.specs.Memory.{store}
 use Rattle.hb_mach.specs.State.{State, register}
 use Rattle.hb_mach.specs.Table.{table, running, fetched, execute, computed, storing, storing_memory, storing_port, ending, called, goes_on, word_at_pc, is_written_at}

@@ -8,8 +8,8 @@ use Rattle.hb_base.specs.declared.step.Step.{Step}
 use Rattle.hb_base.specs.declared.step.Step.TheVariants.{Read, Wrote}
 use Rattle.hb_base.specs.declared.step.Stop.{Stop}
 use Rattle.hb_base.specs.declared.step.Stop.TheVariants.{Done, InputEnd, Unmapped}
-use Rattle.hb_mach.specs.Arithmetic.{alu_of}
-use Rattle.hb_mach.specs.Lines.{first_value, without_first}
+use Rattle.hb_asm.specs.Arithmetic.{alu_of}
+use Rattle.hb_base.specs.Inputs.{first_value, without_first}
 use Rattle.hb_runs.specs.Outcome.{Outcome, nothing_yet}
 use Rattle.hb_flat.specs.declared.form.Operand.{Operand}
 use Rattle.hb_flat.specs.declared.form.Operand.TheVariants.{Word, Number}

@@ -7,8 +7,8 @@ use Rattle.hb_asm.specs.declared.instr.StoreOp.{StoreOp}
 use Rattle.hb_base.specs.declared.step.Step.{Step}
 use Rattle.hb_base.specs.declared.step.Stop.{Stop}
 use Rattle.hb_runs.specs.Stepping.{after}
-use Rattle.hb_mach.specs.Arithmetic.{load_size, store_size, low_part}
-use Rattle.hb_mach.specs.Lines.{first_value}
+use Rattle.hb_asm.specs.Arithmetic.{load_size, store_size, low_part}
+use Rattle.hb_base.specs.Inputs.{first_value}
 use Rattle.hb_mach.specs.Memory.{Memory, load, store}
 use Rattle.hb_mach.specs.State.{State}
 use Rattle.hb_mach.specs.Table.{table, running, fetched, execute, computed, branching, jumping, loading, loading_memory, loading_port, reading, storing, storing_memory, storing_port, is_read_at, is_written_at, instruction_at_pc}

@@ -10,8 +10,8 @@ use Rattle.hb_base.specs.declared.port.Dir.TheVariants.{In}
 use Rattle.hb_base.specs.declared.port.Port.{Port}
 use Rattle.hb_base.specs.declared.script.ScriptLine.{ScriptLine}
 use Rattle.hb_script.specs.Lines.{IsEvent}
-use Rattle.hb_mach.specs.Arithmetic.{store_size, low_part}
-use Rattle.hb_mach.specs.Lines.{IsInput, AreInputs, first_value, without_first}
+use Rattle.hb_asm.specs.Arithmetic.{store_size, low_part}
+use Rattle.hb_base.specs.Inputs.{IsInput, AreInputs, first_value, without_first}
 use Rattle.hb_mach.specs.Table.{is_out, is_met_at, is_written_at}
 
 -- ---- lines

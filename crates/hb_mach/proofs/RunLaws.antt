@@ -12,8 +12,8 @@ use Rattle.hb_base.specs.declared.step.Stop.TheVariants.{Misaligned, Unmapped, I
 use Rattle.hb_image.specs.declared.image.Image.{Image}
 use Rattle.hb_runs.specs.Outcome.{GrowsTo, Stays, Shows, Ends, Grows}
 use Rattle.hb_runs.specs.Stepping.{after, answers}
-use Rattle.hb_mach.specs.Arithmetic.{load_size, store_size, extended, low_part}
-use Rattle.hb_mach.specs.Lines.{first_value}
+use Rattle.hb_asm.specs.Arithmetic.{load_size, store_size, extended, low_part}
+use Rattle.hb_base.specs.Inputs.{first_value}
 use Rattle.hb_mach.specs.Memory.{Memory, load, store}
 use Rattle.hb_mach.specs.State.{State, start}
 use Rattle.hb_mach.specs.Table.{table, running, fetched, execute, computed, branching, jumping, loading, loading_memory, loading_port, reading, storing, storing_memory, storing_port, ending, is_read_at, is_written_at, instruction_at_pc}

@@ -16,7 +16,7 @@ use Rattle.hb_base.specs.declared.script.ScriptLine.{ScriptLine}
 use Rattle.hb_script.specs.declared.content.Content.{Content}
 use Rattle.hb_script.specs.declared.content.Content.TheVariants.{Nothing, Input, Wrong}
 use Rattle.hb_script.specs.Scripts.{script_of, inputs_from, joined, content_of, content_of_words, input_of, input_at, is_input_named, is_in, is_value, is_hex, is_comment, words, most_bytes}
-use Rattle.hb_mach.specs.Lines.{IsInput, AreInputs}
+use Rattle.hb_base.specs.Inputs.{IsInput, AreInputs}
 
 same_input : (a b : ScriptLine) → Input a ≡ Input b → a ≡ b
 same_input a b e = cc

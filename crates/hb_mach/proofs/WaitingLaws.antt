@@ -3,7 +3,7 @@ use Rattle.std.proofs.Common.{◌⊎◌, inl, inr, ◌≡◌, ℕ, zero, suc, �
 use Rattle.std.proofs.lemmas.Option.{slice_get_read, slice_get-get_or}
 use Rattle.std.proofs.lemmas.Bool.{cases_eq, cases_Bool, cases_lt, leb-true, le-leb, lt-leb, eqb-true, eqb-false, false≢true}
 use Rattle.hb_base.specs.declared.script.ScriptLine.{ScriptLine}
-use Rattle.hb_mach.specs.Lines.{first_value, without_first}
+use Rattle.hb_base.specs.Inputs.{first_value, without_first}
 use Rattle.hb_mach.specs.Waiting.{waiting, names, NoneBetween, IsFirstFrom}
 
 -- ---- the start: every line waits

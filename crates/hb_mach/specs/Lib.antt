@@ -1,5 +1,3 @@
-pub mod Arithmetic
-pub mod Lines
 pub mod Memory
 pub mod Run
 pub mod Running

@@ -12,8 +12,8 @@ use Rattle.hb_base.specs.declared.step.Step.TheVariants.{Going, Read, Wrote, End
 use Rattle.hb_base.specs.declared.step.Stop.{Stop}
 use Rattle.hb_base.specs.declared.step.Stop.TheVariants.{Done, Halt, Stack, InputEnd, Illegal, Misaligned, Unmapped, Break}
 use Rattle.hb_asm.specs.Coding.{decode_of}
-use Rattle.hb_mach.specs.Arithmetic.{wrapped, unsigned, alu_of, is_taken, load_size, store_size, extended, low_part}
-use Rattle.hb_mach.specs.Lines.{first_value, without_first}
+use Rattle.hb_asm.specs.Arithmetic.{wrapped, unsigned, alu_of, is_taken, load_size, store_size, extended, low_part}
+use Rattle.hb_base.specs.Inputs.{first_value, without_first}
 use Rattle.hb_mach.specs.Memory.{Memory, load, store}
 use Rattle.hb_mach.specs.State.{State, code_base, register, with_register}
 

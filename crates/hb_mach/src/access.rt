@@ -1,7 +1,7 @@
-ghost use Rattle.std.specs.Prelude.{◌≡◌, ◌<◌, position};
-ghost use Rattle.hb_mach.specs.Arithmetic as arithmetic;
-ghost use Rattle.hb_mach.specs.Arithmetic.{load_size, store_size};
-ghost use Rattle.hb_mach.specs.Lines.{first_value};
+ghost use Rattle.std.specs.Prelude.{length, ◌≡◌, ◌<◌, position};
+ghost use Rattle.hb_asm.specs.Arithmetic as arithmetic;
+ghost use Rattle.hb_asm.specs.Arithmetic.{load_size, store_size};
+ghost use Rattle.hb_base.specs.Inputs.{first_value};
 ghost use Rattle.hb_mach.specs.Memory.{load, store};
 ghost use Rattle.hb_mach.specs.Table.{is_read_at, is_written_at, loading, loading_memory, loading_port, reading, storing, storing_memory, storing_port};
 ghost use Rattle.hb_script.specs.Lines.{IsShown};
@@ -51,7 +51,8 @@ impl Machine {
 
     #[tactic(auto, using(crate::proofs::PortLaws::reads), unfolding(crate::specs::Table::reading))]
     fn read_port(&mut self, port: u32, op: LoadOp, rd: u8) -> Step
-        requires { port < 256 }
+        requires few { port < 256 }
+        requires there { port < length self.old.ports }
         ensures turn { (self.new, result) ≡ reading (first_value port self.old.lines) port op rd self.old }
         ensures shown { IsShown self.new.ports result }
     {

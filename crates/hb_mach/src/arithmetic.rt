@@ -1,11 +1,11 @@
 ghost use Rattle.std.specs.Prelude.{◌≡◌, ◌%◌, ◌==◌};
-ghost use Rattle.hb_mach.specs.Arithmetic.{alu_of, load_size, store_size};
-ghost use Rattle.hb_mach.specs.Arithmetic as arithmetic;
+ghost use Rattle.hb_asm.specs.Arithmetic.{alu_of, load_size, store_size};
+ghost use Rattle.hb_asm.specs.Arithmetic as arithmetic;
 
 use hb_asm::{AluOp, BranchOp, LoadOp, StoreOp};
 
 /// What an arithmetic instruction computes of two words.
-#[tactic(auto, unfolding(crate::specs::Arithmetic::alu_of))]
+#[tactic(auto, unfolding(hb_asm::specs::Arithmetic::alu_of))]
 pub fn alu(op: AluOp, a: u32, b: u32) -> u32
     ensures { result ≡ alu_of op a b }
 {
@@ -24,7 +24,7 @@ pub fn alu(op: AluOp, a: u32, b: u32) -> u32
 }
 
 /// Whether a branch on two words is taken.
-#[tactic(auto, unfolding(crate::specs::Arithmetic::is_taken))]
+#[tactic(auto, unfolding(hb_asm::specs::Arithmetic::is_taken))]
 pub fn is_taken(op: BranchOp, a: u32, b: u32) -> bool
     ensures { result ≡ arithmetic.is_taken op a b }
 {
@@ -39,7 +39,7 @@ pub fn is_taken(op: BranchOp, a: u32, b: u32) -> bool
 }
 
 /// Whether the size of a load divides its address.
-#[tactic(auto, unfolding(crate::specs::Arithmetic::load_size))]
+#[tactic(auto, unfolding(hb_asm::specs::Arithmetic::load_size))]
 pub fn is_load_aligned(op: LoadOp, address: u32) -> bool
     ensures { result ≡ (address % load_size op == 0) }
 {
@@ -51,7 +51,7 @@ pub fn is_load_aligned(op: LoadOp, address: u32) -> bool
 }
 
 /// Whether the size of a store divides its address.
-#[tactic(auto, unfolding(crate::specs::Arithmetic::store_size))]
+#[tactic(auto, unfolding(hb_asm::specs::Arithmetic::store_size))]
 pub fn is_store_aligned(op: StoreOp, address: u32) -> bool
     ensures { result ≡ (address % store_size op == 0) }
 {
@@ -63,7 +63,7 @@ pub fn is_store_aligned(op: StoreOp, address: u32) -> bool
 }
 
 /// How many bytes a load reads.
-#[tactic(auto, unfolding(crate::specs::Arithmetic::load_size))]
+#[tactic(auto, unfolding(hb_asm::specs::Arithmetic::load_size))]
 pub fn bytes_loaded(op: LoadOp) -> u8
     ensures { result ≡ load_size op }
 {
@@ -75,7 +75,7 @@ pub fn bytes_loaded(op: LoadOp) -> u8
 }
 
 /// How many bytes a store writes.
-#[tactic(auto, unfolding(crate::specs::Arithmetic::store_size))]
+#[tactic(auto, unfolding(hb_asm::specs::Arithmetic::store_size))]
 pub fn bytes_stored(op: StoreOp) -> u8
     ensures { result ≡ store_size op }
 {
@@ -87,7 +87,7 @@ pub fn bytes_stored(op: StoreOp) -> u8
 }
 
 /// What a load leaves in the register, of the number that its bytes hold.
-#[tactic(auto, unfolding(crate::specs::Arithmetic::extended))]
+#[tactic(auto, unfolding(hb_asm::specs::Arithmetic::extended))]
 pub fn extended(op: LoadOp, number: u32) -> u32
     ensures { result ≡ arithmetic.extended op number }
 {
@@ -119,7 +119,7 @@ fn sign_extended_half(number: u32) -> u32
 }
 
 /// The part of a register that a store writes.
-#[tactic(auto, unfolding(crate::specs::Arithmetic::low_part))]
+#[tactic(auto, unfolding(hb_asm::specs::Arithmetic::low_part))]
 pub fn low_part(op: StoreOp, word: u32) -> u32
     ensures { result ≡ arithmetic.low_part op word }
 {

@@ -1,5 +1,5 @@
 ghost use Rattle.std.specs.Prelude.{◌≡◌, ◌<◌, IfOk, MatchOption, length, is_some, if◌then◌else◌};
-ghost use Rattle.hb_mach.specs.Lines.{first_value, without_first};
+ghost use Rattle.hb_base.specs.Inputs.{first_value, without_first};
 ghost use Rattle.hb_mach.specs.Waiting.{NoneBetween, IsFirstFrom};
 
 use hb_base::{List, Memory, ScriptLine};

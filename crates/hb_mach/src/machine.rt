@@ -2,7 +2,7 @@ ghost use Rattle.std.specs.Prelude.{◌≡◌, IsTrue, IfOk, map, option_map};
 ghost use Rattle.hb_asm.specs.Coding.{decode_of};
 ghost use Rattle.hb_base.specs.Ports.{ArePorts};
 ghost use Rattle.hb_image.specs.Rules.{IsImage};
-ghost use Rattle.hb_mach.specs.Lines.{AreInputs};
+ghost use Rattle.hb_base.specs.Inputs.{AreInputs};
 ghost use Rattle.hb_mach.specs.Memory.{byte_at};
 ghost use Rattle.hb_mach.specs.Run.{mach, stop_of};
 ghost use Rattle.hb_mach.specs.Soundness.{IsOwnEnd, is_own};
@@ -11,6 +11,7 @@ ghost use Rattle.hb_mach.specs.State as state;
 ghost use Rattle.hb_mach.specs.Table;
 ghost use Rattle.hb_mach.specs.Table.{goes_to, goes_on, ending, instruction_at_pc};
 ghost use Rattle.hb_runs.specs.Outcome.{Grows};
+ghost use Rattle.hb_script.specs.Ends.{IsNamed};
 ghost use Rattle.hb_script.specs.Lines.{IsShown};
 
 use crate::inputs::Inputs;
@@ -154,7 +155,8 @@ impl Machine {
     }
 
     pub(crate) fn end(&mut self, stop: Stop) -> Step
-        requires { IsTrue (is_own stop) }
+        requires own { IsTrue (is_own stop) }
+        requires named { IsNamed self.old.ports stop }
         ensures turn { (self.new, result) ≡ ending stop self.old }
         ensures shown { IsShown self.new.ports result }
     {
@@ -179,6 +181,7 @@ impl Machine {
     pub(crate) fn stop(&self) -> Stop
         ensures value { result ≡ stop_of self.now.ended }
         ensures own { IsOwnEnd self.now.ended }
+        ensures named { IsNamed self.now.ports result }
     {
         match self.ended {
             Some(stop) => stop,

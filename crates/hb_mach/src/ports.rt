@@ -37,6 +37,7 @@ pub fn port_read_at(ports: &[Port], address: u32, size: u8) -> Option<u32>
     requires { length ports.now ≤ 256 }
     ensures value { result ≡ position (table.is_read_at address size) ports.now }
     ensures within { IfSome result (λ number. number < 256) }
+    ensures there { IfSome result (λ number. number < length ports.now) }
 {
     match place_read_at(ports, address, size) {
         Some(place) => Some(place as u32),

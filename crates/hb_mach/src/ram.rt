@@ -1,6 +1,6 @@
 ghost use Rattle.std.specs.Prelude.{◌≡◌, ◌+◌, ◌<◌, ◌^◌, IfOk, if◌then◌else◌, Some, None};
 ghost use Rattle.std.specs.Bool.{OnFalse};
-ghost use Rattle.hb_mach.specs.Arithmetic.{load_size, store_size};
+ghost use Rattle.hb_asm.specs.Arithmetic.{load_size, store_size};
 ghost use Rattle.hb_mach.specs.Memory.{zeroed, load, store, byte_at};
 
 use crate::arithmetic::{bytes_loaded, bytes_stored};

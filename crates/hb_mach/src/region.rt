@@ -1,5 +1,5 @@
 ghost use Rattle.std.specs.Prelude.{◌≡◌, ◌+◌, ◌*◌, ◌/◌, ◌%◌, ◌<◌, ◌≤◌, true, length, replicate, IfOk, vec_len, slice_index, slice_set};
-ghost use Rattle.hb_mach.specs.Arithmetic.{load_size, store_size};
+ghost use Rattle.hb_asm.specs.Arithmetic.{load_size, store_size};
 ghost use Rattle.hb_mach.specs.Memory.{number_in, put_in, end_of};
 ghost use Rattle.hb_mach.specs.Memory as memory;
 
@@ -42,7 +42,7 @@ impl Region {
     }
 
     /// The number that the bytes of a load hold.
-    #[tactic(auto, unfolding(crate::specs::Arithmetic::load_size))]
+    #[tactic(auto, unfolding(hb_asm::specs::Arithmetic::load_size))]
     pub fn number(&self, op: LoadOp, address: u32) -> u32
         requires low { self.now.base ≤ address }
         requires high { address + load_size op ≤ end_of self.now }
@@ -58,7 +58,7 @@ impl Region {
     }
 
     /// Puts the low bytes of a number at an address.
-    #[tactic(auto, unfolding(crate::specs::Arithmetic::store_size))]
+    #[tactic(auto, unfolding(hb_asm::specs::Arithmetic::store_size))]
     pub fn put(&mut self, op: StoreOp, address: u32, number: u32)
         requires low { self.old.base ≤ address }
         requires high { address + store_size op ≤ end_of self.old }

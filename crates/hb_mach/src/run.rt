@@ -3,6 +3,7 @@ ghost use Rattle.hb_io.specs.Counts.{Rose};
 ghost use Rattle.hb_io.specs.Taken.{appended, TookFront};
 ghost use Rattle.hb_mach.specs.Running.{RanToLimit, RanToFault};
 ghost use Rattle.hb_mach.specs.Turns.{Turned};
+ghost use Rattle.hb_script.specs.Ends.{IsNamed};
 ghost use Rattle.hb_script.specs.Lines.{line_of, IsShown};
 
 use crate::machine::Machine;
@@ -43,8 +44,9 @@ impl Machine {
     /// that could not be written; the machine then stands after the step of that line. `Stop::Steps` says that all
     /// steps were done without an end. On a machine that has ended it answers that end.
     pub fn run<O: Sink>(&mut self, limit: u64, out: &mut O) -> Stop
-        ensures { RanToLimit limit self.old self.new result (O.taken out.old) (O.taken out.new) (O.faults out.old) (O.faults out.new)
+        ensures run { RanToLimit limit self.old self.new result (O.taken out.old) (O.taken out.new) (O.faults out.old) (O.faults out.new)
             ⊎ RanToFault limit self.old self.new result (O.taken out.old) (O.taken out.new) (O.faults out.old) (O.faults out.new) }
+        ensures named { IsNamed self.new.ports result }
     {
         for _step in 0..limit {
             match self.turn(out) {

@@ -3,6 +3,7 @@ ghost use Rattle.hb_mach.specs.Soundness.{is_own};
 ghost use Rattle.hb_mach.specs.State as state;
 ghost use Rattle.hb_mach.specs.Table;
 ghost use Rattle.hb_mach.specs.Table.{called, computed, branching, jumping, execute, table};
+ghost use Rattle.hb_script.specs.Ends.{IsNamed};
 ghost use Rattle.hb_script.specs.Lines.{IsShown};
 
 use crate::arithmetic::{alu, is_taken};
@@ -54,6 +55,7 @@ impl Machine {
 
     fn call(&self) -> Stop
         ensures own { IsTrue (is_own result) }
+        ensures named { IsNamed self.now.ports result }
         ensures value { result ≡ called (state.register self.now 17) (state.register self.now 10) }
     {
         match self.register(17) {

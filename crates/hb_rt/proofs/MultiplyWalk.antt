@@ -9,7 +9,7 @@ use Rattle.hb_asm.specs.declared.instr.AluOp.TheVariants.{Add, Sub, Sll, Srl, An
 use Rattle.hb_asm.specs.declared.instr.BranchOp.TheVariants.{Bne}
 use Rattle.hb_asm.specs.declared.instr.Instr.{Instr}
 use Rattle.hb_asm.specs.declared.instr.Instr.TheVariants.{OpImm, Op, Branch}
-use Rattle.hb_mach.specs.Arithmetic.{alu_of, is_taken, wrapped}
+use Rattle.hb_asm.specs.Arithmetic.{alu_of, is_taken, wrapped}
 use Rattle.hb_mach.specs.State.{State, register}
 use Rattle.hb_rt.specs.Multiply.{Multiplies, multiply_length, multiply_steps, multiply_changes}
 use Rattle.hb_rt.specs.Routine.{IsRunning, IsPlain, StandsAtPc, Passes}

@@ -11,7 +11,7 @@ use Rattle.hb_asm.specs.Coding.{code_of, decode_of}
 use Rattle.hb_asm.specs.InRange.{InRange}
 use Rattle.hb_asm.proofs.Coding.{decode-code}
 use Rattle.hb_base.specs.declared.step.Step.TheVariants.{Going}
-use Rattle.hb_mach.specs.Arithmetic.{alu_of, is_taken, unsigned, wrapped}
+use Rattle.hb_asm.specs.Arithmetic.{alu_of, is_taken, unsigned, wrapped}
 use Rattle.hb_mach.specs.State.{State, code_base, register, with_register}
 use Rattle.hb_mach.specs.Table.{table, running, fetched, execute, computed, branching, goes_on, goes_to, word_at_pc, instruction_at_pc, from_here}
 use Rattle.hb_rt.specs.Routine.{IsRunning, StandsAtPc, StandsIn, Leads, Stays, Steps, Leaves}

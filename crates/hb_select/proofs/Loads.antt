@@ -14,7 +14,7 @@ use Rattle.hb_flat.specs.declared.form.Operand.{Operand}
 use Rattle.hb_flat.specs.declared.form.Operand.TheVariants.{Word, Number}
 use Rattle.hb_flat.specs.Meaning.{value_of}
 use Rattle.hb_flat.specs.Rules.{IsOperand}
-use Rattle.hb_mach.specs.Arithmetic.{wrapped, unsigned, alu_of, load_size, extended, store_size}
+use Rattle.hb_asm.specs.Arithmetic.{wrapped, unsigned, alu_of, load_size, extended, store_size}
 use Rattle.hb_mach.specs.Memory.{Memory, load, store}
 use Rattle.hb_mach.specs.State.{State}
 use Rattle.hb_mach.specs.Table.{table, execute, computed, loading, loading_memory, storing, storing_memory, goes_on, upper}

@@ -21,8 +21,8 @@ use Rattle.hb_base.specs.declared.step.Stop.{Stop}
 use Rattle.hb_base.specs.declared.step.Stop.TheVariants.{InputEnd, Done}
 use Rattle.hb_base.specs.Ports.{IsWidth, IsPort, ArePorts}
 use Rattle.hb_flat.specs.Meaning.{is_at, read_at, written_at}
-use Rattle.hb_mach.specs.Arithmetic.{wrapped, unsigned, alu_of, load_size, extended, store_size, low_part}
-use Rattle.hb_mach.specs.Lines.{first_value, without_first, AreInputs}
+use Rattle.hb_asm.specs.Arithmetic.{wrapped, unsigned, alu_of, load_size, extended, store_size, low_part}
+use Rattle.hb_base.specs.Inputs.{first_value, without_first, AreInputs}
 use Rattle.hb_mach.specs.Memory.{load, store}
 use Rattle.hb_mach.specs.State.{State}
 use Rattle.hb_mach.specs.Table.{table, execute, computed, loading, loading_memory, loading_port, reading, storing, storing_memory, storing_port, ending, called, counted, goes_on, is_read_at, is_written_at}

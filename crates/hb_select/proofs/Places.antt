@@ -9,7 +9,7 @@ use Rattle.hb_base.specs.declared.port.Port.{Port}
 use Rattle.hb_base.specs.declared.script.ScriptLine.{ScriptLine}
 use Rattle.hb_base.specs.declared.step.Step.{Step}
 use Rattle.hb_base.specs.declared.step.Step.TheVariants.{Going}
-use Rattle.hb_mach.specs.Arithmetic.{wrapped}
+use Rattle.hb_asm.specs.Arithmetic.{wrapped}
 use Rattle.hb_mach.specs.Memory.{Memory}
 use Rattle.hb_mach.specs.Run.{events}
 use Rattle.hb_mach.specs.State.{State}

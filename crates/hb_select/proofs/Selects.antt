@@ -15,7 +15,7 @@ use Rattle.hb_flat.specs.declared.form.Flat.{Flat}
 use Rattle.hb_flat.specs.Meaning.{entered, runs, shown_from}
 use Rattle.hb_flat.specs.Rules.{IsBlock, IsStep}
 use Rattle.hb_flat.proofs.Growth.{runs-grows}
-use Rattle.hb_mach.specs.Lines.{AreInputs}
+use Rattle.hb_base.specs.Inputs.{AreInputs}
 use Rattle.hb_mach.specs.Memory.{zeroed}
 use Rattle.hb_mach.specs.Run.{mach}
 use Rattle.hb_mach.specs.State.{start}

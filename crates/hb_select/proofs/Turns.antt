@@ -21,8 +21,8 @@ use Rattle.hb_flat.specs.declared.form.FlatTail.{FlatTail}
 use Rattle.hb_flat.specs.declared.form.FlatTail.TheVariants.{Done}
 use Rattle.hb_flat.specs.Meaning.{Thread, Turn, Quiet, Event, End, value_of, read_at, written_at, taking, reading, writing, does, closes, next, turn}
 use Rattle.hb_flat.specs.Rules.{IsOperand, IsStep}
-use Rattle.hb_mach.specs.Arithmetic.{alu_of}
-use Rattle.hb_mach.specs.Lines.{first_value, without_first, AreInputs}
+use Rattle.hb_asm.specs.Arithmetic.{alu_of}
+use Rattle.hb_base.specs.Inputs.{first_value, without_first, AreInputs}
 use Rattle.hb_mach.specs.State.{State}
 use Rattle.hb_mach.proofs.PortLaws.{AreInputs-without_first}
 use Rattle.hb_select.specs.Code.{operand_code, put_code, load_of, store_of, step_code, tail_code, code_from}

@@ -7,7 +7,7 @@ use Rattle.hb_image.specs.Rules.{IsImage}
 use Rattle.hb_flat.specs.declared.form.Flat.{Flat}
 use Rattle.hb_flat.specs.Meaning.{runs}
 use Rattle.hb_flat.specs.Rules.{IsFlat}
-use Rattle.hb_mach.specs.Lines.{AreInputs}
+use Rattle.hb_base.specs.Inputs.{AreInputs}
 use Rattle.hb_mach.specs.Run.{mach}
 use Rattle.hb_runs.specs.Outcome.{SameRuns}
 use Rattle.hb_select.specs.Code.{words_of}

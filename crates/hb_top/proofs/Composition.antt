@@ -18,44 +18,86 @@ module _ (words : List (List ℕ)) (old new : World) where
 
   answers_0 : Runs words old new → Answers words 0 old new
   answers_0 runs = record {
-    named = inl refl; done = λ _. runs; source_refused = λ e. absurd (omega arith); words_refused = λ e. absurd (omega arith); script_refused = λ e. absurd (omega arith);
-    read_fault = λ e. absurd (omega arith); faults = λ e. absurd (omega arith); no_memory = λ e. absurd (omega arith);
+    named = inl refl;
+    done = λ _. runs;
+    source_refused = λ e. absurd (omega arith);
+    words_refused = λ e. absurd (omega arith);
+    script_refused = λ e. absurd (omega arith);
+    read_fault = λ e. absurd (omega arith);
+    faults = λ e. absurd (omega arith);
+    no_memory = λ e. absurd (omega arith);
   }
 
   answers_1 : (refusal : Refusal) → Reports words (Refused refusal) old new → Answers words 1 old new
   answers_1 refusal reports = record {
-    named = inr (inl refl); done = λ e. absurd (omega arith); source_refused = λ _. (refusal, reports); words_refused = λ e. absurd (omega arith); script_refused = λ e. absurd (omega arith);
-    read_fault = λ e. absurd (omega arith); faults = λ e. absurd (omega arith); no_memory = λ e. absurd (omega arith);
+    named = inr (inl refl);
+    done = λ e. absurd (omega arith);
+    source_refused = λ _. (refusal, reports);
+    words_refused = λ e. absurd (omega arith);
+    script_refused = λ e. absurd (omega arith);
+    read_fault = λ e. absurd (omega arith);
+    faults = λ e. absurd (omega arith);
+    no_memory = λ e. absurd (omega arith);
   }
 
   answers_2 : Reports words Words old new → Answers words 2 old new
   answers_2 reports = record {
-    named = inr (inr (inl refl)); done = λ e. absurd (omega arith); source_refused = λ e. absurd (omega arith); words_refused = λ _. reports; script_refused = λ e. absurd (omega arith);
-    read_fault = λ e. absurd (omega arith); faults = λ e. absurd (omega arith); no_memory = λ e. absurd (omega arith);
+    named = inr (inr (inl refl));
+    done = λ e. absurd (omega arith);
+    source_refused = λ e. absurd (omega arith);
+    words_refused = λ _. reports;
+    script_refused = λ e. absurd (omega arith);
+    read_fault = λ e. absurd (omega arith);
+    faults = λ e. absurd (omega arith);
+    no_memory = λ e. absurd (omega arith);
   }
 
   answers_3 : Reports words Script old new → Answers words 3 old new
   answers_3 reports = record {
-    named = inr (inr (inr (inl refl))); done = λ e. absurd (omega arith); source_refused = λ e. absurd (omega arith); words_refused = λ e. absurd (omega arith); script_refused = λ _. reports;
-    read_fault = λ e. absurd (omega arith); faults = λ e. absurd (omega arith); no_memory = λ e. absurd (omega arith);
+    named = inr (inr (inr (inl refl)));
+    done = λ e. absurd (omega arith);
+    source_refused = λ e. absurd (omega arith);
+    words_refused = λ e. absurd (omega arith);
+    script_refused = λ _. reports;
+    read_fault = λ e. absurd (omega arith);
+    faults = λ e. absurd (omega arith);
+    no_memory = λ e. absurd (omega arith);
   }
 
   answers_4 : Reports words Read old new → Answers words 4 old new
   answers_4 reports = record {
-    named = inr (inr (inr (inr (inl refl)))); done = λ e. absurd (omega arith); source_refused = λ e. absurd (omega arith); words_refused = λ e. absurd (omega arith); script_refused = λ e. absurd (omega arith);
-    read_fault = λ _. reports; faults = λ e. absurd (omega arith); no_memory = λ e. absurd (omega arith);
+    named = inr (inr (inr (inr (inl refl))));
+    done = λ e. absurd (omega arith);
+    source_refused = λ e. absurd (omega arith);
+    words_refused = λ e. absurd (omega arith);
+    script_refused = λ e. absurd (omega arith);
+    read_fault = λ _. reports;
+    faults = λ e. absurd (omega arith);
+    no_memory = λ e. absurd (omega arith);
   }
 
   answers_5 : Faults words old new → Answers words 5 old new
   answers_5 fault = record {
-    named = inr (inr (inr (inr (inr (inl refl))))); done = λ e. absurd (omega arith); source_refused = λ e. absurd (omega arith); words_refused = λ e. absurd (omega arith); script_refused = λ e. absurd (omega arith);
-    read_fault = λ e. absurd (omega arith); faults = λ _. fault; no_memory = λ e. absurd (omega arith);
+    named = inr (inr (inr (inr (inr (inl refl)))));
+    done = λ e. absurd (omega arith);
+    source_refused = λ e. absurd (omega arith);
+    words_refused = λ e. absurd (omega arith);
+    script_refused = λ e. absurd (omega arith);
+    read_fault = λ e. absurd (omega arith);
+    faults = λ _. fault;
+    no_memory = λ e. absurd (omega arith);
   }
 
   answers_12 : NoMemory words old new → Answers words 12 old new
   answers_12 none = record {
-    named = inr (inr (inr (inr (inr (inr refl))))); done = λ e. absurd (omega arith); source_refused = λ e. absurd (omega arith); words_refused = λ e. absurd (omega arith); script_refused = λ e. absurd (omega arith);
-    read_fault = λ e. absurd (omega arith); faults = λ e. absurd (omega arith); no_memory = λ _. none;
+    named = inr (inr (inr (inr (inr (inr refl)))));
+    done = λ e. absurd (omega arith);
+    source_refused = λ e. absurd (omega arith);
+    words_refused = λ e. absurd (omega arith);
+    script_refused = λ e. absurd (omega arith);
+    read_fault = λ e. absurd (omega arith);
+    faults = λ e. absurd (omega arith);
+    no_memory = λ _. none;
   }
 
   at : (m n : ℕ) → n ≡ m → Answers words m old new → Answers words n old new

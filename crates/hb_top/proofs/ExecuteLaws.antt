@@ -16,7 +16,6 @@ use Rattle.hb_mach.specs.State.{State}
 use Rattle.hb_mach.specs.Table.{table}
 use Rattle.hb_mach.specs.Run.{events, shown, stop_of}
 use Rattle.hb_mach.specs.Running.{lines_shown, Ran, RanToLimit, RanToFault}
-use Rattle.hb_mach.specs.Soundness.{IsOwnEnd, is_own}
 use Rattle.hb_mach.proofs.KeepsLaws.{ports-after}
 use Rattle.hb_mach.proofs.RunLaws.{events-append}
 use Rattle.hb_mach.proofs.RunningLaws.{lines_shown-suc}
@@ -39,7 +38,7 @@ stop_is limit old new stop before now f f' r = r.answer ∙ ap (λ s. stop_of s.
 
 -- the end line that is put is the one of the text
 end_is : (limit : ℕ) (old new : State) (stop : Stop) (before now : Option (List ℕ)) (f f' : ℕ) → RanToLimit limit old new stop before now f f' → (ports : List Port) (done : ℕ) → ports ≡ new.ports → done ≡ new.done
-       → end_of ports stop done ≡ end_of old.ports (stop_after old limit) (after table limit old).done
+    → end_of ports stop done ≡ end_of old.ports (stop_after old limit) (after table limit old).done
 end_is limit old new stop before now f f' r ports done ep ed =
     let e1 : ports ≡ old.ports = ep ∙ ap (λ s. s.ports) r.ran.state ∙ ports-after limit old in
     let e2 : done ≡ (after table limit old).done = ed ∙ ap (λ s. s.done) r.ran.state in
@@ -47,20 +46,20 @@ end_is limit old new stop before now f f' r ports done ep ed =
 
 -- all lines were put, and then the end line
 pub told_whole : (limit : ℕ) (old new : State) (stop : Stop) (before now last : Option (List ℕ)) (f f' f'' status : ℕ) (ports : List Port) (done : ℕ) (text : List ℕ) → RanToLimit limit old new stop before now f f' → ports ≡ new.ports → done ≡ new.done
-      → text ≡ end_of ports stop done → last ≡ appended now text → f'' ≡ f' → status ≡ status_of stop → Tells (text_from old limit) (status_of (stop_after old limit)) (printed before f) (printed last f'') status
+    → text ≡ end_of ports stop done → last ≡ appended now text → f'' ≡ f' → status ≡ status_of stop → Tells (text_from old limit) (status_of (stop_after old limit)) (printed before f) (printed last f'') status
 told_whole limit old new stop before now last f f' f'' status ports done text r ep ed et el ef es =
     whole
     (record {
       taken =
-        el ∙ ap (λ t. appended t text) r.ran.lines ∙ appended-appended before (lines_shown old limit) text
-        ∙ ap (λ t. appended before (lines_shown old limit ++ t)) (et ∙ end_is limit old new stop before now f f' r ports done ep ed) ∙ ap (appended before) (sym (text_is old limit));
+          el ∙ ap (λ t. appended t text) r.ran.lines ∙ appended-appended before (lines_shown old limit) text
+          ∙ ap (λ t. appended before (lines_shown old limit ++ t)) (et ∙ end_is limit old new stop before now f f' r ports done ep ed) ∙ ap (appended before) (sym (text_is old limit));
       no_fault = ef ∙ r.ran.faults;
     })
     (es ∙ ap status_of (stop_is limit old new stop before now f f' r))
 
 -- all lines were put, and a front of the end line
 pub told_end_cut : (limit : ℕ) (old new : State) (stop : Stop) (before now last : Option (List ℕ)) (f f' f'' : ℕ) (ports : List Port) (done : ℕ) (text : List ℕ) → RanToLimit limit old new stop before now f f' → ports ≡ new.ports → done ≡ new.done
-      → text ≡ end_of ports stop done → TookFront now text last → Rose f' f'' → Tells (text_from old limit) (status_of (stop_after old limit)) (printed before f) (printed last f'') 5
+    → text ≡ end_of ports stop done → TookFront now text last → Rose f' f'' → Tells (text_from old limit) (status_of (stop_after old limit)) (printed before f) (printed last f'') 5
 told_end_cut limit old new stop before now last f f' f'' ports done text r ep ed et front rose =
     let end = end_of old.ports (stop_after old limit) (after table limit old).done in
     let same : text ≡ end = et ∙ end_is limit old new stop before now f f' r ports done ep ed in
@@ -86,9 +85,10 @@ text_begins s steps limit below =
     let n = limit - suc steps in
     let split : limit ≡ suc steps + n = omega arith in
     let more = lines_of s.ports (events (answers table n (after table (suc steps) s))) in
-    let end = end_of s.ports (stop_after s limit) (after table limit s).done in
-    (more ++ end,
-     text_is s limit ∙ ap (λ t. t ++ end) (ap (lines_shown s) split ∙ lines_more s (suc steps) n ∙ ap (λ t. t ++ more) (lines_shown-suc s steps)) ∙ append_assoc _ more end)
+    let end = end_of s.ports (stop_after s limit) (after table limit s).done in (
+      more ++ end,
+      text_is s limit ∙ ap (λ t. t ++ end) (ap (lines_shown s) split ∙ lines_more s (suc steps) n ∙ ap (λ t. t ++ more) (lines_shown-suc s steps)) ∙ append_assoc _ more end,
+    )
 
 -- a line of the run could not be put
 pub told_line_cut : (limit : ℕ) (old new : State) (stop : Stop) (before now : Option (List ℕ)) (f f' : ℕ) → RanToFault limit old new stop before now f f' → Tells (text_from old limit) (status_of (stop_after old limit)) (printed before f) (printed now f') 5
@@ -103,18 +103,10 @@ told_line_cut limit old new stop before now f f' r =
     })
     refl
 
--- a run that ends by itself does not end by a line that could not be put
-own_not_sink : (ended : Option Stop) → IsOwnEnd ended → stop_of ended ≡ Sink → ⊥
-own_not_sink None own e = cc
-own_not_sink (Some stop) own e = let h : is_own Sink ≡ true = subst (λ s. IsTrue (is_own s)) e own in cc
-
 pub fault_of : (limit : ℕ) (old new : State) (stop : Stop) (before now : Option (List ℕ)) (f f' : ℕ) → RanToLimit limit old new stop before now f f' ⊎ RanToFault limit old new stop before now f f' → stop ≡ Sink → RanToFault limit old new stop before now f f'
-fault_of limit old new stop before now f f' (inl r) e = absurd (own_not_sink new.ended r.own (sym r.answer ∙ e))
+fault_of limit old new stop before now f f' (inl r) e = absurd (r.no_sink e)
 fault_of limit old new stop before now f f' (inr r) e = r
 
 pub limit_of : (limit : ℕ) (old new : State) (stop : Stop) (before now : Option (List ℕ)) (f f' : ℕ) → RanToLimit limit old new stop before now f f' ⊎ RanToFault limit old new stop before now f f' → (stop ≡ Sink → ⊥) → RanToLimit limit old new stop before now f f'
 limit_of limit old new stop before now f f' (inl r) other = r
 limit_of limit old new stop before now f f' (inr r) other = absurd (other r.answer)
-
-pub named_done : (ports : List Port) (stop : Stop) → stop ≡ Done → IsNamed ports stop
-named_done ports stop e = rw e tt

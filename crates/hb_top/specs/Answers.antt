@@ -61,9 +61,9 @@ pub record Runs (words : List (List ℕ)) (old new : World) : Type 0 where
 pub data Stands (words : List (List ℕ)) (old new : World) : Type 0 where
   failing : (failure : Failure) → FailsBy words old.shelf new.shelf failure → TookFront old.sink.taken (line_of failure) new.sink.taken → Stands words old new
   running : (command : Command) (image : Image) → Compiles words old.shelf command image
-    → new.shelf ≡ record old.shelf { files = written old.shelf.files command.image (spelling image) }
-    → TookFront old.sink.taken (text_of image [] standard_steps) new.sink.taken
-    → Stands words old new
+      → new.shelf ≡ record old.shelf { files = written old.shelf.files command.image (spelling image) }
+      → TookFront old.sink.taken (text_of image [] standard_steps) new.sink.taken
+      → Stands words old new
 
 pub record Faults (words : List (List ℕ)) (old new : World) : Type 0 where
   pub cause : Rose old.shelf.write_faults new.shelf.write_faults ⊎ Rose old.sink.faults new.sink.faults

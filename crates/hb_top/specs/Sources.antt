@@ -6,7 +6,7 @@ use Rattle.hb_runs.specs.Outcome.{SameRuns}
 use Rattle.hb_first.specs.declared.source.Source.{Source}
 use Rattle.hb_first.specs.Form.{Spells}
 use Rattle.hb_first.specs.Meaning.{says, declared_ports}
-use Rattle.hb_mach.specs.Lines.{AreInputs}
+use Rattle.hb_base.specs.Inputs.{AreInputs}
 use Rattle.hb_mach.specs.Run.{mach}
 use Rattle.hb_top.specs.declared.refusal.Refusal.{Refusal}
 use Rattle.hb_top.specs.declared.refusal.Refusal.TheVariants.{SourceLong, Syntax}

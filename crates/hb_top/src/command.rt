@@ -13,12 +13,7 @@ use std::alloc::Global;
 ///
 /// `run FILE SCRIPT IMAGE` compiles the source in FILE, writes the image to IMAGE, runs that very image, and puts a
 /// line for each port event and then the end. `Answers` says of each status what was read, written and put.
-pub fn habit<F: Shelf, O: Sink>(
-    alloc: Global,
-    words: &List<Text>,
-    shelf: &mut F,
-    out: &mut O,
-) -> u8
+pub fn habit<F: Shelf, O: Sink>(alloc: Global, words: &List<Text>, shelf: &mut F, out: &mut O) -> u8
     ensures { Answers words.now result
         (world (shelved (F.files shelf.old) (F.read_faults shelf.old) (F.write_faults shelf.old)) (printed (O.taken out.old) (O.faults out.old)))
         (world (shelved (F.files shelf.new) (F.read_faults shelf.new) (F.write_faults shelf.new)) (printed (O.taken out.new) (O.faults out.new))) }

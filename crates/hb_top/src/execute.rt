@@ -1,5 +1,4 @@
 ghost use Rattle.std.specs.Prelude.{◌≡◌};
-ghost use Rattle.hb_base.specs.declared.step.Stop.TheVariants.{Done};
 ghost use Rattle.hb_top.specs.Executing.{Tells};
 ghost use Rattle.hb_top.specs.Texts;
 ghost use Rattle.hb_top.specs.Texts.{text_from, standard_steps, stop_after};
@@ -31,7 +30,6 @@ fn status_of(stop: Stop) -> u8
 
 /// Runs the machine to its end, and puts a line for each port event and then the end.
 pub fn execute<O: Sink>(mut machine: Machine, out: &mut O) -> u8
-    requires { stop_after machine standard_steps ≡ Done }
     ensures { Tells (text_from machine standard_steps) (Texts.status_of (stop_after machine standard_steps)) (printed (O.taken out.old) (O.faults out.old)) (printed (O.taken out.new) (O.faults out.new)) result }
 {
     let stop = machine.run(STANDARD_STEPS, out);

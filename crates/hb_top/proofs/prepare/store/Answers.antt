@@ -12,7 +12,7 @@ same_shelf : (f f' : Option Files) (r r' w w' : ℕ) → f' ≡ f → r' ≡ r �
 same_shelf f f' r r' w w' ef er ew = cc
 
 stored : (files files' : Option Files) (r r' w w' : ℕ) (name : List ℕ) (image : Image) (state : State) (lines : List ScriptLine) (bytes seen : List ℕ) → state ≡ start image lines → lines ≡ [] → seen ≡ bytes → bytes ≡ spelling image → files' ≡ written files name seen → r' ≡ r → w' ≡ w
-       → Stored (shelved files r w) (shelved files' r' w') name image state
+    → Stored (shelved files r w) (shelved files' r' w') name image state
 stored files files' r r' w w' name image state lines bytes seen es el en eb ef er ew = record {
   loaded = es ∙ ap (start image) el;
   wrote = same_shelf (written files name (spelling image)) files' r r' w w' (ef ∙ ap (written files name) (en ∙ eb)) er ew;
@@ -22,4 +22,4 @@ pub returns-in-Ok-write : goal.returns-in-Ok-write
 returns-in-Ok-write g c =
     let old = c.args.shelf.now in let new = c.write-2.new.self in
     stored (g.F.Shelf.files old) (g.F.Shelf.files new) (g.F.Shelf.read_faults old) (g.F.Shelf.read_faults new) (g.F.Shelf.write_faults old) (g.F.Shelf.write_faults new) c.args.name.now c.args.image c.in-Ok-load.machine c.of.result c.in-Ok.bytes.items c.as_slice.result.now
-    c.in-Ok-load.ensures (c.of.ensures ∙ c.new.ensures.items) c.as_slice.ensures.value c.in-Ok.ensures c.in-Ok-write.ensures.ok c.in-Ok-write.ensures.no_read c.in-Ok-write.ensures.no_fault
+    c.in-Ok-load.ensures.start (c.of.ensures ∙ c.new.ensures.items) c.as_slice.ensures.value c.in-Ok.ensures c.in-Ok-write.ensures.ok c.in-Ok-write.ensures.no_read c.in-Ok-write.ensures.no_fault

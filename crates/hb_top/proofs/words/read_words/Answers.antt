@@ -17,7 +17,7 @@ pub record IsFound (word name : List ℕ) : Type 0 where
   pub fits : IsName word
 
 reads : (ws seen : List (List ℕ)) (a b c d file script image : List ℕ) → seen ≡ ws → 4 ≤ length seen → length seen < 5 → a ≡ get_or seen 0 a → b ≡ get_or seen 1 b → c ≡ get_or seen 2 c → d ≡ get_or seen 3 d → a ≡ codes "run"
-      → IsFound b file → IsFound c script → IsFound d image → Reads ws (record { file = file; script = script; image = image })
+    → IsFound b file → IsFound c script → IsFound d image → Reads ws (record { file = file; script = script; image = image })
 reads ws seen a b c d file script image es low high ea eb ec ed run f s i = record {
   words_are = sym es ∙ four seen a b c d low high ea eb ec ed ∙ rw (run, f.same, s.same, i.same) refl;
   file = subst IsName (sym f.same) f.fits;

@@ -8,12 +8,12 @@ loop-step-init g c = ran_none _ _ _
 pub loop-step-preserved : goal.loop-step-preserved
 loop-step-preserved g c = ran_more _ _ _ _ _ _ _ _ _ _ c.loop-step.invariant c.in-Goes.ensures
 
-pub returns-in-Ends : goal.returns-in-Ends
-returns-in-Ends g c =
+pub returns-in-Ends-clause-run : goal.returns-in-Ends-clause-run
+returns-in-Ends-clause-run g c =
     inl (ran_to_limit _ _ _ _ _ _ _ _
     (ran_ends _ _ _ _ _ _ _ _ _ _ _ c.loop-step-test.true c.loop-step.invariant c.in-Ends.ensures)
     c.stop.ensures.value
     c.stop.ensures.own)
 
-pub returns-in-Fails : goal.returns-in-Fails
-returns-in-Fails g c = inr (ran_fails _ _ _ _ _ _ _ _ _ _ _ c.loop-step-test.true c.loop-step.invariant c.in-Fails.ensures)
+pub returns-in-Fails-clause-run : goal.returns-in-Fails-clause-run
+returns-in-Fails-clause-run g c = inr (ran_fails _ _ _ _ _ _ _ _ _ _ _ c.loop-step-test.true c.loop-step.invariant c.in-Fails.ensures)
