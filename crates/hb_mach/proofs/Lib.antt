@@ -5,5 +5,4 @@ pub mod MemoryLaws
 pub mod PortLaws
 pub mod RunLaws
 pub mod RunningLaws
-pub mod ScriptLaws
 pub mod WaitingLaws

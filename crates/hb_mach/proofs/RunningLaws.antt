@@ -1,5 +1,5 @@
 -- How the turns of a run make up the run.
-use Rattle.std.proofs.Common.{◌≡◌, ℕ, zero, suc, ◌+◌, ◌<◌, ◌↔◌, List, [], ◌∷◌, ◌++◌, ◌-◌, Option, Some, None, IsSome, refl, ap, sym, ◌∙◌, subst, arith, append_assoc, append-nil}
+use Rattle.std.proofs.Common.{◌≡◌, ℕ, zero, suc, ◌+◌, ◌<◌, ◌↔◌, List, [], ◌∷◌, ◌++◌, ◌-◌, Option, Some, None, IsSome, refl, ap, sym, ◌∙◌, subst, arith, append-nil}
 use Rattle.std.proofs.lemmas.List.Concat.{flat_map-append}
 use Rattle.hb_base.specs.declared.port.Port.{Port}
 use Rattle.hb_base.specs.declared.script.ScriptLine.{ScriptLine}
@@ -10,6 +10,7 @@ use Rattle.hb_base.specs.declared.step.Stop.{Stop}
 use Rattle.hb_base.specs.declared.step.Stop.TheVariants.{Done, Halt, Stack, InputEnd, Steps, Illegal, Misaligned, Unmapped, Break, Sink}
 use Rattle.hb_io.specs.Counts.{Rose}
 use Rattle.hb_io.specs.Taken.{appended, TookFront}
+use Rattle.hb_io.specs.TakenLaws.{appended-nothing, appended-appended}
 use Rattle.hb_runs.specs.Stepping.{after, answers}
 use Rattle.hb_script.specs.Lines.{line_of, lines_of}
 use Rattle.hb_mach.specs.Run.{events, stop_of, mach, shown, steps_done}
@@ -20,16 +21,6 @@ use Rattle.hb_mach.specs.Table.{table, running}
 use Rattle.hb_mach.specs.Turns.{TurnGoes, TurnEnds, TurnFails}
 use Rattle.hb_mach.proofs.KeepsLaws.{keeps, ports-after}
 use Rattle.hb_mach.proofs.RunLaws.{Turn, Quiet, Reads, Writes, Stops, Over, turns, after-suc, answers-suc, events-append}
-
--- ---- what a sink has taken
-
-pub appended-nil : (taken : Option (List ℕ)) → appended taken [] ≡ taken
-appended-nil None = refl
-appended-nil (Some bytes) = ap (λ (bs : List ℕ). Some bs) (append-nil bytes)
-
-pub appended-append : (taken : Option (List ℕ)) (xs ys : List ℕ) → appended (appended taken xs) ys ≡ appended taken (xs ++ ys)
-appended-append None xs ys = refl
-appended-append (Some bytes) xs ys = ap (λ (bs : List ℕ). Some bs) (append_assoc bytes xs ys)
 
 -- ---- the lines of steps
 
@@ -61,7 +52,7 @@ pub turn_ends : (old new : State) (stop : Stop) (taken : Option (List ℕ)) (fau
 turn_ends old new stop taken faults e =
     let state : new ≡ (table old).0 = ap (λ (r : State × Step). r.0) e in
     let answer : (table old).1 ≡ Ended stop = sym (ap (λ (r : State × Step). r.1) e) in
-    record { goes = record { state = state; line = sym (ap (λ (step : Step). appended taken (line_of old.ports step)) answer ∙ appended-nil taken); faults = refl }; ended = rw state (ended_by _ _ _ (turns old) stop answer) }
+    record { goes = record { state = state; line = sym (ap (λ (step : Step). appended taken (line_of old.ports step)) answer ∙ appended-nothing taken); faults = refl }; ended = rw state (ended_by _ _ _ (turns old) stop answer) }
 
 pub turn_goes : (old new : State) (step : Step) (before now : Option (List ℕ)) (faults_before faults_now : ℕ) → (new, step) ≡ table old
     → now ≡ appended before (line_of new.ports step) → faults_now ≡ faults_before → TurnGoes old new before now faults_before faults_now
@@ -85,7 +76,7 @@ turn_fails old new step before now faults_before faults_now e front rose =
 
 pub ran_none : (s : State) (taken : Option (List ℕ)) (faults : ℕ) → Ran 0 s s taken taken faults faults
 unfolding after lines_shown answers
-ran_none s taken faults = record { state = refl; lines = sym (appended-nil taken); faults = refl }
+ran_none s taken faults = record { state = refl; lines = sym (appended-nothing taken); faults = refl }
 
 pub ran_more : (n : ℕ) (old mid new : State) (first before now : Option (List ℕ)) (faults_first faults_before faults_now : ℕ)
     → Ran n old mid first before faults_first faults_before → TurnGoes mid new before now faults_before faults_now
@@ -99,7 +90,7 @@ ran_more n old mid new first before now faults_first faults_before faults_now ra
     let line : now ≡ appended before (line_of old.ports (table (after table n old)).1) = turn.line ∙ ap (appended before) same in
     let lines : now ≡ appended first (lines_shown old (suc n)) =
     line ∙ ap (λ (taken : Option (List ℕ)). appended taken (line_of old.ports (table (after table n old)).1)) ran.lines
-    ∙ appended-append first (lines_shown old n) _
+    ∙ appended-appended first (lines_shown old n) _
     ∙ ap (appended first) (sym (lines_shown-suc old n)) in
     rw e (record { state = state; lines = lines; faults = turn.faults ∙ ran.faults })
 
@@ -114,7 +105,7 @@ ran_over n zero old new before now faults_before faults_now stop e ran = let sam
 ran_over n (suc m) old new before now faults_before faults_now stop e ran =
     let still = over-table new stop e in
     let goes : TurnGoes new new now now faults_now faults_now =
-    record { state = sym (ap (λ (r : State × Step). r.0) still); line = rw (still, appended-nil) refl; faults = refl } in
+    record { state = sym (ap (λ (r : State × Step). r.0) still); line = rw (still, appended-nothing) refl; faults = refl } in
     let same : n + suc m ≡ n + 1 + m = omega arith in
     rw same (ran_over (n + 1) m old new before now faults_before faults_now stop e
     (ran_more n old new new before now now faults_before faults_now faults_now ran goes))
@@ -162,7 +153,7 @@ pub ran_to_limit : (limit : ℕ) (old new : State) (stop : Stop) (before now : O
     → Ran limit old new before now faults_before faults_now → stop ≡ stop_of new.ended → IsOwnEnd new.ended
     → RanToLimit limit old new stop before now faults_before faults_now
 ran_to_limit limit old new stop before now faults_before faults_now ran answer own =
-    record { ran = ran; answer = answer; steps = rw answer (steps-going new.ended own); no_sink = λ e. no-sink new.ended own (sym answer ∙ e) }
+    record { ran = ran; answer = answer; own = own; steps = rw answer (steps-going new.ended own); no_sink = λ e. no-sink new.ended own (sym answer ∙ e) }
 
 pub ran_fails : (n limit : ℕ) (old mid new : State) (first before now : Option (List ℕ)) (faults_first faults_before faults_now : ℕ)
     → n < limit → Ran n old mid first before faults_first faults_before → TurnFails mid new before now faults_before faults_now

@@ -7,6 +7,7 @@ use Rattle.hb_io.specs.Taken.{appended, TookFront}
 use Rattle.hb_runs.specs.Stepping.{after, answers}
 use Rattle.hb_script.specs.Lines.{line_of, lines_of}
 use Rattle.hb_mach.specs.Run.{events, stop_of}
+use Rattle.hb_mach.specs.Soundness.{IsOwnEnd}
 use Rattle.hb_mach.specs.State.{State}
 use Rattle.hb_mach.specs.Table.{table}
 
@@ -24,6 +25,7 @@ pub record Ran (steps : ℕ) (old new : State) (before now : Option (List ℕ)) 
 pub record RanToLimit (limit : ℕ) (old new : State) (stop : Stop) (before now : Option (List ℕ)) (faults_before faults_now : ℕ) : Type 0 where
   pub ran : Ran limit old new before now faults_before faults_now
   pub answer : stop ≡ stop_of new.ended
+  pub own : IsOwnEnd new.ended
   pub steps : (stop ≡ Steps) ↔ (new.ended ≡ None)
   pub no_sink : stop ≢ Sink
 
