@@ -1,0 +1,11 @@
+pub mod Numbers
+pub mod Goes
+pub mod Frames
+pub mod Places
+pub mod Loads
+pub mod Meetings
+pub mod Turns
+pub mod Between
+pub mod Simulation
+pub mod Selects
+pub mod PartsLaws
