@@ -192,20 +192,23 @@ fn find_port(way: Dir, name: &[u8], ports: &[Port]) -> Option<u32>
     requires { length ports.now ≤ 256 }
     ensures { result ≡ find_port way name.now ports.now }
 {
-    ports
-        .iter()
-        .position(|port| is_named(port, way, name))
-        .map(|number| number as u32)
+    match ports.iter().position(|port| is_named(port, way, name)) {
+        Some(number) => Some(number as u32),
+        None => None,
+    }
 }
 
 fn find_variable(variables: &[Text], name: &[u8]) -> Option<u32>
     requires { length variables.now ≤ 1000 }
     ensures { result ≡ position (bytes_eq name.now) variables.now }
 {
-    variables
+    match variables
         .iter()
         .position(|variable| name == variable.as_slice())
-        .map(|number| number as u32)
+    {
+        Some(number) => Some(number as u32),
+        None => None,
+    }
 }
 
 /// The byte of a literal, or the number of the variable of this name.
@@ -226,7 +229,10 @@ fn atom_named(variables: &[Text], word: &[u8]) -> Option<Atom>
     if is_literal(word, 2) {
         Some(Atom::Literal(byte_at(word, 1)))
     } else {
-        find_variable(variables, word).map(Atom::Variable)
+        match find_variable(variables, word) {
+            Some(number) => Some(Atom::Variable(number)),
+            None => None,
+        }
     }
 }
 
