@@ -151,13 +151,13 @@ move_at Written reader t = move_written reader t
 move_at End reader t = None
 
 -- what a token makes of a reader, or none where it cannot stand
-unfoldable pub move : Reader → Token → Option Reader
-move reader t = move_at reader.stage reader t
+unfoldable pub step : Reader → Token → Option Reader
+step reader t = move_at reader.stage reader t
 
 -- what tokens make of a reader
-unfoldable pub moves : Reader → List Token → Option Reader
-moves reader [] = Some reader
-moves reader (t ∷ ts) = option_and_then (λ (next : Reader). moves next ts) (move reader t)
+unfoldable pub steps : Reader → List Token → Option Reader
+steps reader [] = Some reader
+steps reader (t ∷ ts) = option_and_then (λ (next : Reader). steps next ts) (step reader t)
 
 -- the reader at the first token
 abbrev pub start : Reader
