@@ -1,2 +1,3 @@
 pub mod ScanSteps
 pub mod TokensLaws
+pub mod Tests

@@ -1,4 +1,4 @@
-ghost use Rattle.std.specs.Prelude.{◌≡◌, ◌&&◌, ℕ, ◌+◌, ◌<◌, ◌≤◌, length, drop, IfOk, slice_index, if◌then◌else◌, option_map, position, Some, None, [], OnOk};
+ghost use Rattle.std.specs.Prelude.{◌≡◌, ◌&&◌, ℕ, ◌+◌, ◌<◌, ◌≤◌, length, drop, IfOk, slice_index, if◌then◌else◌, option_map, position, Some, None, [], OnOk, ◌==◌};
 ghost use Rattle.std.specs.List.{list_any, list_all};
 ghost use Rattle.std.specs.Str.{bytes_eq};
 ghost use Rattle.hb_base.specs.PortName.{is_lower};
@@ -384,10 +384,16 @@ fn may_be_in(ports: &[Port]) -> bool
     has_port(Dir::Out, ports) || ports.len() < 255
 }
 
+fn has_address(ports: &[Port], address: u32) -> bool
+    ensures { result ≡ list_any (λ port. port.address == address) ports.now }
+{
+    ports.iter().any(|port| port.address == address)
+}
+
 fn is_new_address(ports: &[Port], address: u32) -> bool
     ensures { result ≡ is_new_address ports.now address }
 {
-    !ports.iter().any(|port| port.address == address)
+    !has_address(ports, address)
 }
 
 fn is_port_address(ports: &[Port], word: &[u8]) -> bool
@@ -649,5 +655,35 @@ impl Reader {
         }
         self.stage = Stage::Fixed(Fixed::LastClose);
         true
+    }
+
+    /// Takes the next token, if it may stand here. After a token that may not, the reader is not used again.
+    #[tactic(auto, unfolding(crate::specs::Moves::step))]
+    pub fn take(&mut self, alloc: Global, token: &Token) -> Result<bool, Memory>
+        requires ports { length self.old.ports ≤ 256 }
+        requires variables { length self.old.variables ≤ 1000 }
+        ensures { IfOk result (λ fits. step self.old token.now ≡ given fits self.new) }
+    {
+        let fits = match self.stage {
+            Stage::Fixed(fixed) => self.take_fixed(fixed, token),
+            Stage::Next => self.take_next(token),
+            Stage::Name => self.take_name(alloc, token)?,
+            Stage::Direction => self.take_direction(token),
+            Stage::Address(way) => self.take_address(way, token),
+            Stage::PortEnd(way, address) => self.take_port_end(alloc, way, address, token)?,
+            Stage::Line => self.take_line(alloc, token)?,
+            Stage::From => self.take_from(alloc, token)?,
+            Stage::To => self.take_to(token),
+            Stage::Value(port) => self.take_value(port, token)?,
+            Stage::First(port) => self.take_first(port, token),
+            Stage::Between(port, a) => self.take_operator(port, a, token),
+            Stage::Second(port, a, operator) => self.take_second(port, a, operator, token),
+            Stage::Closing(port, a, operator, b) => {
+                self.take_closing(port, Argument::Operation(a, operator, b), token)?
+            }
+            Stage::Written => self.take_written(token),
+            Stage::End => false,
+        };
+        Ok(fits)
     }
 }
