@@ -35,7 +35,7 @@ pub record Alive (r : Reader) : Type 0 where
   pub leads : steps r rest ≡ Some last
   pub ends : last.stage ≡ End
 
-by_step : (r n : Reader) (t : Token) → step r t ≡ Some n → Alive n → Alive r
+pub by_step : (r n : Reader) (t : Token) → step r t ≡ Some n → Alive n → Alive r
 by_step r n t e a = record { rest = t ∷ a.rest; last = a.last; leads = steps_one r n t a.rest e ∙ a.leads; ends = a.ends }
 
 given_true : (b : Bool) (r : Reader) → b ≡ true → given b r ≡ Some r

@@ -4,3 +4,6 @@ pub mod Tests
 pub mod Fresh
 pub mod Alive
 pub mod Sound
+pub mod Complete
+pub mod Reading
+pub mod SpellingLaws

@@ -376,7 +376,7 @@ fixed_sound ReadEnd name ps vs ss ts k = line_begins false ps vs ss ts k.0 k.1 k
 fixed_sound LastClose name ps vs ss ts k = (body_longer true ps vs ss ts _ (mark "}") k.0, k.1)
 
 -- each token keeps what is known
-sound_at : (stage : Stage) (name : List ℕ) (ps : List Port) (vs : List (List ℕ)) (ss : List Statement) (ts : List Token) (t : Token) (n : Reader) → KnownAt stage name ps vs ss ts → move_at stage (mk stage name ps vs ss) t ≡ Some n → Reached n (ts ++ t ∷ [])
+pub sound_at : (stage : Stage) (name : List ℕ) (ps : List Port) (vs : List (List ℕ)) (ss : List Statement) (ts : List Token) (t : Token) (n : Reader) → KnownAt stage name ps vs ss ts → move_at stage (mk stage name ps vs ss) t ≡ Some n → Reached n (ts ++ t ∷ [])
 sound_at (At fixed) name ps vs ss ts t n k h =
     by_given (same_token t (expected fixed).0) (mk (expected fixed).1 name ps vs ss) n (ts ++ t ∷ []) h
     (λ e. as_token (λ u. KnownAt (expected fixed).1 name ps vs ss (ts ++ u ∷ [])) t (expected fixed).0 e (fixed_sound fixed name ps vs ss ts k))

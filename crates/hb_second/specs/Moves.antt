@@ -4,6 +4,8 @@ use Rattle.std.specs.Str.{bytes_eq}
 use Rattle.hb_base.specs.declared.port.Port.{Port}
 use Rattle.hb_base.specs.declared.port.Dir.{Dir}
 use Rattle.hb_base.specs.declared.port.Dir.TheVariants.{In, Out}
+use Rattle.hb_base.specs.declared.place.Place.{Place}
+use Rattle.hb_second.specs.declared.token.Placed.{Placed}
 use Rattle.hb_second.specs.declared.token.Token.{Token}
 use Rattle.hb_second.specs.declared.token.Token.TheVariants.{Word, Symbols, Colons, Mark}
 use Rattle.hb_second.specs.declared.source.Atom.{Atom}
@@ -19,6 +21,7 @@ use Rattle.hb_second.specs.declared.reader.Reader.{Reader}
 use Rattle.hb_second.specs.Literals.{is_literal, address_value}
 use Rattle.hb_second.specs.Names.{is_new_name, has_port, find_port, atom_of, operator_of}
 use Rattle.hb_second.specs.Form.{word, mark, is_new_address}
+use Rattle.hb_second.specs.Spelling.{texts}
 
 -- the one token that may come, and the stage after it
 abbrev pub expected : Fixed → Token × Stage
@@ -162,3 +165,14 @@ steps reader (t ∷ ts) = option_and_then (λ (next : Reader). steps next ts) (s
 -- the reader at the first token
 abbrev pub start : Reader
 start = record { stage = At Open; name = []; ports = []; variables = []; statements = [] }
+
+-- a reader took the tokens before one, and not that one, which is at this place
+pub record Stopped (ts : List Placed) (place : Place) : Type 0 where
+  pub before : List Placed
+  pub after : List Placed
+  pub t : Placed
+  pub reader : Reader
+  pub tokens : ts ≡ before ++ t ∷ after
+  pub reads : steps start (texts before) ≡ Some reader
+  pub stops : step reader t.token ≡ None
+  pub here : place ≡ t.place

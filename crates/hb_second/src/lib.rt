@@ -11,5 +11,5 @@ mod source;
 mod stage;
 mod token;
 
-pub use read::ReadError;
+pub use read::{read_source, ReadError};
 pub use source::{Argument, Atom, Operator, Source, Statement};
