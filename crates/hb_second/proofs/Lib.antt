@@ -7,3 +7,4 @@ pub mod Sound
 pub mod Complete
 pub mod Reading
 pub mod SpellingLaws
+pub mod MeaningLaws

@@ -108,7 +108,7 @@ form_at stage e name ps vs ss ts k =
 pub form_of : (ts : List Token) (r : Reader) → steps start ts ≡ Some r → r.stage ≡ End → Form ts (record { ports = r.ports; statements = r.statements })
 form_of ts r h e = form_at r.stage e r.name r.ports r.variables r.statements ts (reached ts r h)
 
-steps_on : (ts us : List Token) (r : Reader) → steps start ts ≡ Some r → steps start (ts ++ us) ≡ steps r us
+pub steps_on : (ts us : List Token) (r : Reader) → steps start ts ≡ Some r → steps start (ts ++ us) ≡ steps r us
 steps_on ts us r h = steps_append ts start us ∙ ap (option_and_then (λ (n : Reader). steps n us)) h
 
 -- tokens that are taken can go on
@@ -220,3 +220,7 @@ stage_sizes End name ps vs ss ts k = body_sizes true ps vs ss ts _ k.0 k.1
 
 pub sizes : (ts : List Token) (r : Reader) → steps start ts ≡ Some r → Sizes r.ports r.variables
 sizes ts r h = stage_sizes r.stage r.name r.ports r.variables r.statements ts (reached ts r h)
+
+pub steps_last : (r n : Reader) (t : Token) → step r t ≡ Some n → steps r (t ∷ []) ≡ Some n
+unfolding steps
+steps_last r n t e = steps_one r n t [] e

@@ -1,5 +1,7 @@
 -- What the reader's answer says of the bytes.
-use Rattle.std.proofs.Common.{◌≡◌, ℕ, List, [], ◌∷◌, ◌++◌, Option, Some, None, refl, sym, ap, subst, ◌∙◌, append_assoc}
+use Rattle.std.proofs.Common.{◌≡◌, ℕ, suc, ◌+◌, ◌<◌, Bool, true, false, List, [], ◌∷◌, ◌++◌, length, take, drop, get_or, Option, Some, None, Result, Ok, Err, refl, sym, ap, subst, ◌∙◌, append_assoc, drop-cons}
+use Rattle.std.specs.Prelude.{MatchResult}
+use Rattle.std.proofs.lemmas.List.{take_more, take-append-drop}
 use Rattle.hb_base.specs.declared.place.Place.{Place}
 use Rattle.hb_second.specs.declared.token.Token.{Token}
 use Rattle.hb_second.specs.declared.token.Placed.{Placed}
@@ -11,9 +13,9 @@ use Rattle.hb_second.specs.Scan.{tokens_of}
 use Rattle.hb_second.specs.Tokens.{Tokens}
 use Rattle.hb_second.specs.Form.{Form}
 use Rattle.hb_second.specs.Spelling.{texts, Spells, CanGoOn, FirstWrong, at_token, at_end, IsRead, IsWrong}
-use Rattle.hb_second.specs.Moves.{start, steps, step, Stopped}
+use Rattle.hb_second.specs.Moves.{start, steps, step, given, Stopped}
 use Rattle.hb_second.proofs.TokensLaws.{tokens_are, tokens_unique}
-use Rattle.hb_second.proofs.Reading.{form_of, can_go_on, cannot_go_on, no_form, one_form}
+use Rattle.hb_second.proofs.Reading.{steps_on, steps_last, form_of, can_go_on, cannot_go_on, no_form, one_form}
 
 texts_append : (ts us : List Placed) → texts (ts ++ us) ≡ texts ts ++ texts us
 texts_append [] us = refl
@@ -50,3 +52,33 @@ wrong_end bytes found r place e h early here =
       nothing = λ source spelled. none source (spelled_form bytes found source e spelled);
       first = at_end found (found_tokens bytes found e) (can_go_on (texts found) r h) none here;
     }
+
+-- one token more is taken
+pub taken : (ts : List Placed) (i : ℕ) (x : Placed) (r n : Reader) (fits : Bool) → i < length ts → x ≡ get_or ts i x → steps start (texts (take i ts)) ≡ Some r → step r x.token ≡ given fits n → fits ≡ true → steps start (texts (take (i + 1) ts)) ≡ Some n
+taken ts i x r n fits lt ex h e f =
+    let more : take (i + 1) ts ≡ take i ts ++ x ∷ [] = take_more ts i x lt ∙ ap (λ y. take i ts ++ y ∷ []) (sym ex) in
+    let goes : step r x.token ≡ Some n = e ∙ ap (λ b. given b n) f in
+    ap (λ (us : List Placed). steps start (texts us)) more
+    ∙ ap (steps start) (texts_append (take i ts) (x ∷ []))
+    ∙ steps_on (texts (take i ts)) (x.token ∷ []) r h
+    ∙ steps_last r n x.token goes
+
+-- or is not
+pub not_taken : (ts : List Placed) (i : ℕ) (x : Placed) (r n : Reader) (fits : Bool) → i < length ts → x ≡ get_or ts i x → steps start (texts (take i ts)) ≡ Some r → step r x.token ≡ given fits n → fits ≡ false → Stopped ts x.place
+not_taken ts i x r n fits lt ex h e f = record {
+  before = take i ts; after = drop (suc i) ts; t = x; reader = r;
+  tokens = sym (take-append-drop i ts) ∙ ap (λ us. take i ts ++ us) (drop-cons ts i x lt ∙ ap (λ y. y ∷ drop (suc i) ts) (sym ex));
+  reads = h;
+  stops = e ∙ ap (λ b. given b n) f;
+  here = refl;
+}
+
+-- what an answer says in each of its cases
+pub ok_of : (P : Reader → Type 0) (Q : Place → Type 0) (a : Result Reader Place) (r : Reader) → a ≡ Ok r → MatchResult a P Q → P r
+ok_of P Q a r e m = subst (λ b. MatchResult b P Q) e m
+
+pub err_of : (P : Reader → Type 0) (Q : Place → Type 0) (a : Result Reader Place) (p : Place) → a ≡ Err p → MatchResult a P Q → Q p
+err_of P Q a p e m = subst (λ b. MatchResult b P Q) e m
+
+abbrev pub AllTaken : List Placed → Reader → Type 0
+AllTaken ts r = steps start (texts ts) ≡ Some r
