@@ -1,0 +1,10 @@
+pub mod ScanSteps
+pub mod TokensLaws
+pub mod Tests
+pub mod Fresh
+pub mod Alive
+pub mod Sound
+pub mod Complete
+pub mod Reading
+pub mod SpellingLaws
+pub mod MeaningLaws

@@ -1,0 +1,10 @@
+pub mod Bytes
+pub mod Tokens
+pub mod Scan
+pub mod Literals
+pub mod Names
+pub mod Form
+pub mod Spelling
+pub mod Inputs
+pub mod Meaning
+pub mod Moves
