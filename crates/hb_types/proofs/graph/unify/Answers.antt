@@ -1,0 +1,22 @@
+use Rattle.std.proofs.Common.{◌≡◌, true, false, rules, arith}
+use Rattle.hb_types.proofs.GraphLemmas.{met-start, met-turn, met-end, met-clash, last-within, last-work}
+use Rattle.hb_types.proofs.graph.unify.Goals as goal
+
+pub turn-requires-clause-left : goal.turn-requires-clause-left
+turn-requires-clause-left c = (last-within _ _ _ c.in-Some.pair c.loop-pair.invariant.within c.in-Some.ensures.items).0
+
+pub turn-requires-clause-right : goal.turn-requires-clause-right
+turn-requires-clause-right c = (last-within _ _ _ c.in-Some.pair c.loop-pair.invariant.within c.in-Some.ensures.items).1
+
+pub turn-requires-clause-pending : goal.turn-requires-clause-pending
+turn-requires-clause-pending c = (last-within _ _ _ c.in-Some.pair c.loop-pair.invariant.within c.in-Some.ensures.items).2
+
+pub returns-then-not-branch : goal.returns-then-not-branch
+returns-then-not-branch c =
+    let no : c.in_ok-turn.field-0 ≡ false = first_of (cc, search rules, grind arith) in
+    met-clash _ _ _ _ _ c.in-Some.pair c.loop-pair.invariant c.in-Some.ensures.items (rw no at c.in_ok-turn.ensures)
+
+pub loop-pair-preserved : goal.loop-pair-preserved
+loop-pair-preserved c =
+    let yes : c.in_ok-turn.field-0 ≡ true = first_of (cc, search rules, grind arith) in
+    met-turn _ _ _ _ _ _ _ c.in-Some.pair c.loop-pair.invariant c.in-Some.ensures.items (rw yes at c.in_ok-turn.ensures)

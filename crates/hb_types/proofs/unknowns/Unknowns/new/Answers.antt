@@ -1,0 +1,5 @@
+use Rattle.hb_types.proofs.EquationLemmas.{no-equations}
+use Rattle.hb_types.proofs.unknowns.Unknowns.new.Goals as goal
+
+pub returns-clause-solved : goal.returns-clause-solved
+returns-clause-solved c = no-equations _ _ c.new.ensures.items c.new-2.ensures.items

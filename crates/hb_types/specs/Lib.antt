@@ -1,0 +1,7 @@
+pub mod Equations
+pub mod Finite
+pub mod Graph
+pub mod Instance
+pub mod Joined
+pub mod Load
+pub mod Order
