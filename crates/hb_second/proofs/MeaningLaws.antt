@@ -11,7 +11,7 @@ use Rattle.hb_second.specs.declared.source.Argument.TheVariants.{Atom as OneAtom
 use Rattle.hb_second.specs.declared.source.Statement.{Statement}
 use Rattle.hb_second.specs.declared.source.Statement.TheVariants.{Read, Write}
 use Rattle.hb_second.specs.declared.source.Source.{Source}
-use Rattle.hb_second.specs.Inputs.{first_value, without_first}
+use Rattle.hb_base.specs.Inputs.{first_value, without_first}
 use Rattle.hb_second.specs.Meaning.{goes, says, ended, after_event, operate, value}
 
 -- an event before keeps growth

@@ -5,6 +5,5 @@ pub mod Literals
 pub mod Names
 pub mod Form
 pub mod Spelling
-pub mod Inputs
 pub mod Meaning
 pub mod Moves

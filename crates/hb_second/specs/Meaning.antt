@@ -17,7 +17,7 @@ use Rattle.hb_second.specs.declared.source.Argument.TheVariants.{Atom as OneAtom
 use Rattle.hb_second.specs.declared.source.Statement.{Statement}
 use Rattle.hb_second.specs.declared.source.Statement.TheVariants.{Read, Write}
 use Rattle.hb_second.specs.declared.source.Source.{Source}
-use Rattle.hb_second.specs.Inputs.{first_value, without_first}
+use Rattle.hb_base.specs.Inputs.{first_value, without_first}
 
 -- on eight bits: sums and differences wrap
 abbrev pub operate : Operator → ℕ → ℕ → ℕ
