@@ -14,7 +14,8 @@ use Rattle.hb_script.specs.declared.content.Content.TheVariants.{Nothing, Input,
 use Rattle.hb_script.specs.declared.fault.ScriptError.{ScriptError}
 use Rattle.hb_script.specs.declared.fault.ScriptError.TheVariants.{Bad, Memory}
 use Rattle.hb_script.specs.Scripts.{content_of, before, joined, inputs_from, most_bytes, script_of, Gives}
-use Rattle.hb_script.specs.Grammar.{IsSkipped, SayInputs, Spells, Suits, IsInput, IsLine, IsFault}
+use Rattle.hb_base.specs.Inputs.{IsInput}
+use Rattle.hb_script.specs.Grammar.{IsSkipped, SayInputs, Spells, Suits, IsLine, IsFault}
 use Rattle.hb_script.proofs.LineLemmas.{line_is_nothing, line_is_input, skipped_again, input_line_again}
 
 abbrev read_ok : List ScriptLine → Result (List ScriptLine) ℕ

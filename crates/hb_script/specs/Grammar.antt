@@ -70,7 +70,3 @@ pub record IsFirstWrong (ports : List Port) (lines : List (List ℕ)) (number : 
 abbrev pub IsFault : List Port → List ℕ → ScriptError → Type 0
 IsFault ports bytes (Bad number) = ((number ≡ 0) × (most_bytes < length bytes)) ⊎ ((length bytes ≤ most_bytes) × IsFirstWrong ports (lines bytes) number)
 IsFault ports bytes Memory = Unit {0}
-
--- an In port, and a value of its width
-abbrev pub IsInput : List Port → ScriptLine → Type 0
-IsInput ports input = IsSomeAnd (slice_get ports input.port) (λ port. (port.dir ≡ In) × (input.value < 2 ^ (8 * port.width)))

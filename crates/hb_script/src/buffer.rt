@@ -1,4 +1,4 @@
-//! The pieces that a line is written in, one behind the other, into the front of a buffer.
+//! The pieces that a line is written in, one behind the other, into the front of a buffer. None takes memory.
 
 ghost use Rattle.std.specs.Prelude.{◌≡◌, ◌+◌, ◌≤◌, ◌<◌, [], ◌∷◌, ◌++◌, length, take, slice_get, decimal, Some};
 ghost use Rattle.hb_base.specs.Ports.{ArePorts, IsPort};

@@ -1,7 +1,7 @@
 //! The texts of a run: scripts of port inputs, which are read, and the lines of a trace, which are written.
 #![tactic(auto)]
 
-mod buffer;
+pub mod buffer;
 mod content;
 mod end;
 mod fault;

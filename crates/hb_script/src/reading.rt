@@ -1,7 +1,8 @@
 ghost use Rattle.std.specs.Prelude as prelude;
 ghost use Rattle.std.specs.Prelude.{◌++◌, [], ◌∷◌, All, IfOk, IfErr, Ok};
 ghost use Rattle.hb_base.specs.Ports.{ArePorts};
-ghost use Rattle.hb_script.specs.Grammar.{Spells, IsInput, IsFault};
+ghost use Rattle.hb_script.specs.Grammar.{Spells, IsFault};
+ghost use Rattle.hb_base.specs.Inputs.{AreInputs};
 ghost use Rattle.hb_script.specs.Scripts.{script_of, Gives};
 
 use crate::content::{Content, read_line};
@@ -44,7 +45,7 @@ pub fn read(alloc: Global, bytes: &[u8], ports: &List<Port>) -> Result<Script, S
     // What is read is spelled so.
     ensures found { IfOk result (λ script. Spells ports.now bytes.now script.lines) }
     // Each input is one of an In port, and has its width.
-    ensures inputs { IfOk result (λ script. All (IsInput ports.now) script.lines) }
+    ensures inputs { IfOk result (λ script. AreInputs ports.now script.lines) }
     // What is spelled so is read, unless memory runs out.
     ensures only { (inputs : prelude.List ScriptLine) → Spells ports.now bytes.now inputs → Gives result (Ok inputs) }
     // The number of the first line that is none of a script, or 0 where the script is too long.
