@@ -1,3 +1,4 @@
 pub mod Places
 pub mod Follows
 pub mod Law
+pub mod Program
