@@ -66,23 +66,20 @@ abbrev pub with_steps : Option ℕ → Option Rest → Option Rest
 with_steps None rest = None
 with_steps (Some n) rest = joined (record { steps = Some n; names = [] }) rest
 
+-- what a word says before other words: by what those say, and by what the number in the first of them and the words
+-- after it say
+abbrev pub said : Kind → List ℕ → List (List ℕ) → Option Rest → Option Rest → Option Rest
+said Name word words others numbered = with_name word others
+said StepsWord word words others numbered = numbered
+said StepsEquals word words others numbered = with_steps (number_of (drop 8 word)) others
+said Dashes word words others numbered = Some (record { steps = None; names = words })
+said Unknown word words others numbered = None
+
 -- what words say; after `--` each word is a name
 abbrev pub rest_of : List (List ℕ) → Option Rest
 rest_of [] = Some nothing_said
-rest_of (word ∷ []) = elim (kind_of word) [
-    Name ↦ with_name word (Some nothing_said)
-  | StepsWord ↦ None
-  | StepsEquals ↦ with_steps (number_of (drop 8 word)) (Some nothing_said)
-  | Dashes ↦ Some nothing_said
-  | Unknown ↦ None
-  ]
-rest_of (word ∷ next ∷ words) = elim (kind_of word) [
-    Name ↦ with_name word (rest_of (next ∷ words))
-  | StepsWord ↦ with_steps (number_of next) (rest_of words)
-  | StepsEquals ↦ with_steps (number_of (drop 8 word)) (rest_of (next ∷ words))
-  | Dashes ↦ Some (record { steps = None; names = next ∷ words })
-  | Unknown ↦ None
-  ]
+rest_of (word ∷ []) = said (kind_of word) word [] (Some nothing_said) None
+rest_of (word ∷ next ∷ words) = said (kind_of word) word (next ∷ words) (rest_of (next ∷ words)) (with_steps (number_of next) (rest_of words))
 
 -- ---- commands
 

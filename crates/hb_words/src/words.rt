@@ -91,3 +91,43 @@ fn kind_of(word: &[u8]) -> Kind
         Kind::Name
     }
 }
+
+fn copy_of(alloc: Global, word: &Text) -> Result<Text, Memory>
+    ensures { IfOk result (λ copy. copy ≡ word.now) }
+{
+    Ok(Text::of(Vec::from_slice(alloc, word.as_slice())?))
+}
+
+impl Rest {
+    ghost use Rattle.hb_words.specs.Words.{joined_steps, both_steps};
+
+    /// Nothing said yet.
+    fn new(alloc: Global) -> Rest
+        ensures { result ≡ Words.nothing_said }
+    {
+        Rest {
+            steps: None,
+            names: List::of(Vec::new(alloc)),
+        }
+    }
+
+    /// One name more.
+    fn add_name(&mut self, alloc: Global, word: &Text) -> Result<(), Memory>
+        ensures names { OnOk result (self.new.names ≡ self.old.names ++ word.now ∷ []) }
+        ensures steps { self.new.steps ≡ self.old.steps }
+    {
+        self.names.push(copy_of(alloc, word)?)?;
+        Ok(())
+    }
+
+    /// All these words are names.
+    fn add_names(&mut self, alloc: Global, words: &[Text]) -> Result<(), Memory>
+        ensures names { OnOk result (self.new.names ≡ self.old.names ++ words.now) }
+        ensures steps { self.new.steps ≡ self.old.steps }
+    {
+        for word in words {
+            self.add_name(alloc, word)?;
+        }
+        Ok(())
+    }
+}
