@@ -60,12 +60,12 @@ fn numbers_and_constructors_differ(rt: HostRuntime) -> Result<(), Fail> {
 
 #[test]
 fn a_long_chain_is_taken_in(rt: HostRuntime) -> Result<(), Fail> {
-    let mut all = unknowns(rt.alloc(), 1_001)?;
-    for number in 0..1_000 {
+    let mut all = unknowns(rt.alloc(), 10_001)?;
+    for number in 0..10_000 {
         assert!(rt; takes(&mut all, &Ty::Unknown(number), &Ty::Unknown(number + 1)));
     }
     assert!(rt; takes(&mut all, &Ty::Unknown(0), &Ty::Con(1)));
-    assert!(rt; !takes(&mut all, &Ty::Unknown(1_000), &Ty::Con(2)));
+    assert!(rt; !takes(&mut all, &Ty::Unknown(10_000), &Ty::Con(2)));
     Ok(())
 }
 
