@@ -1,17 +1,17 @@
 -- Taking in an equation keeps the solutions that make it true, and no others.
-use Rattle.std.proofs.Common.{◌≡◌, ℕ, ◌+◌, ◌<◌, ◌≤◌, ◌↔◌, List, [], ◌∷◌, ◌++◌, length, get_or, sym, refl, ap, ◌∙◌, subst, arith, ⊎_elim, length-append}
+use Rattle.std.proofs.Common.{◌≡◌, ℕ, ◌<◌, List, [], ◌∷◌, ◌++◌, length, get_or, sym, refl, ap, ◌∙◌, subst, arith, ⊎_elim, length-append}
 use Rattle.hb_types.specs.declared.node.Node.{Node}
 use Rattle.hb_types.specs.declared.node.Node.TheVariants.{Free}
 use Rattle.hb_types.specs.declared.types.Ty.{Ty, Unknown}
 use Rattle.hb_types.specs.Finite.{Finite}
 use Rattle.hb_types.specs.Instance.{instance}
 use Rattle.hb_types.specs.Joined.{pair}
-use Rattle.hb_types.specs.Graph.{Obeys, IsGraph, Unified, IsImpossible}
-use Rattle.hb_types.specs.Load.{AreHeads, Follows, Grown, Loaded}
+use Rattle.hb_types.specs.Graph.{Obeys, Unified, IsImpossible}
+use Rattle.hb_types.specs.Load.{AreHeads, Follows, Loaded}
 use Rattle.hb_types.specs.Equations.{Equations, Solves, IsSound, HasNoSolution, IsTaken, IsEquated, IsFresh, equations}
 use Rattle.hb_types.proofs.LoadLemmas.{with_at, with_at-same, with_at-other, free-put, grown-put}
 use Rattle.std.proofs.lemmas.List.{get_or_append_left, get_or_push}
-use Rattle.std.proofs.lemmas.Bool.{cases_eq, cases_lt}
+use Rattle.std.proofs.lemmas.Bool.{cases_lt}
 
 -- a solution of the old equations that makes the new one true, carried to the longer graph
 record Lifted (heads : List ℕ) (big : List Node) (left right : ℕ) (s : ℕ → Finite) : Type 0 where

@@ -1,12 +1,12 @@
 -- Linking two roots keeps what a graph and the equations that wait say.
-use Rattle.std.proofs.Common.{◌≡◌, ◌≢◌, ℕ, ◌+◌, ◌*◌, ◌<◌, ◌≤◌, ◌⊎◌, ◌↔◌, List, [], ◌∷◌, ◌++◌, length, get_or, set, Option, Some, None, sym, refl, ap, ◌∙◌, subst, arith, ⊎_elim, length-append, length-set, get_or-set_same, get_or-set_other}
+use Rattle.std.proofs.Common.{◌≡◌, ◌≢◌, ℕ, ◌+◌, ◌<◌, ◌≤◌, List, [], ◌∷◌, ◌++◌, length, set, Some, None, sym, refl, ap, ◌∙◌, subst, arith, ⊎_elim, length-append, length-set, get_or-set_same, get_or-set_other}
 use Rattle.std.specs.List.{sum_by}
 use Rattle.std.proofs.lemmas.List.Sums.{sum_by-set}
 use Rattle.std.proofs.lemmas.Bool.{cases_eq}
 use Rattle.hb_types.specs.declared.node.Node.{Node}
-use Rattle.hb_types.specs.declared.node.Node.TheVariants.{Free, Link, Leaf, Apply}
+use Rattle.hb_types.specs.declared.node.Node.TheVariants.{Free, Link}
 use Rattle.hb_types.specs.declared.node.Pair.{Pair}
-use Rattle.hb_types.specs.Finite.{Finite, Single, Applied}
+use Rattle.hb_types.specs.Finite.{Finite}
 use Rattle.hb_types.specs.Joined.{at, joined, parts}
 use Rattle.hb_types.specs.Graph.{Says, Within, IsRoot, AreWithin, Agree, one_root, Obeys, IsGraph, Turned, Clashes, work, Met, Unified, IsImpossible}
 use Rattle.hb_types.proofs.NodeLemmas.{joined-none, joined-says, parts-agree, joined-first, joined-second, joined-within, parts-within, parts-few, root-one, one_root-low, AreWithin-append, AreWithin-split, Agree-append, Agree-split}

@@ -24,3 +24,10 @@ weight-apply f x = refl
 
 pub weight-parts : (t f x : Ty) → t ≡ Apply f x → (weight f < weight t) × (weight x < weight t)
 weight-parts t f x e = let w : weight t ≡ weight f + weight x + 1 = ap weight e ∙ weight-apply f x in (omega arith, omega arith)
+
+apply-known : (count : ℕ) (f x : Ty) → HasUnknownsBelow count f → HasUnknownsBelow count x → HasUnknownsBelow count (Apply f x)
+unfolding Rattle.hb_types.specs.declared.types.Ty.TheBlock.hidden-the_row-Ty-0 denote.Hole.Carrier.hidden
+apply-known count f x h k = (h, k)
+
+pub parts-known : (count : ℕ) (t f x : Ty) → t ≡ Apply f x → HasUnknownsBelow count f → HasUnknownsBelow count x → HasUnknownsBelow count t
+parts-known count t f x e h k = subst (HasUnknownsBelow count) (sym e) (apply-known count f x h k)

@@ -1,5 +1,5 @@
 -- Adding nodes to a graph.
-use Rattle.std.proofs.Common.{◌≡◌, ◌≢◌, ℕ, ◌+◌, ◌<◌, ◌≤◌, ◌==◌, ◌⊎◌, List, [], ◌∷◌, ◌++◌, length, get_or, Bool, true, false, cond, sym, refl, ap, ◌∙◌, subst, arith, ⊎_elim, length-append, eq-eqb}
+use Rattle.std.proofs.Common.{◌≡◌, ◌≢◌, ℕ, ◌+◌, ◌<◌, ◌≤◌, ◌==◌, List, [], ◌∷◌, ◌++◌, length, get_or, Bool, false, cond, sym, refl, ap, ◌∙◌, subst, arith, ⊎_elim, length-append, eq-eqb}
 use Rattle.std.proofs.lemmas.List.{get_or_append_left, get_or_push, get_or_past}
 use Rattle.std.proofs.lemmas.Bool.{cases_eq, cases_lt}
 use Rattle.std.proofs.lemmas.Bool.Decides.{nat_tests}
@@ -12,7 +12,7 @@ use Rattle.hb_types.specs.Finite.{Finite, Single, Applied}
 use Rattle.hb_types.specs.Instance.{instance}
 use Rattle.hb_types.specs.Joined.{at}
 use Rattle.hb_types.specs.Graph.{Says, Within, Obeys, IsGraph}
-use Rattle.hb_types.specs.Load.{AreHeads, Follows, Grown, Loaded}
+use Rattle.hb_types.specs.Load.{AreHeads, Grown, Loaded}
 
 -- a type that is as a node says
 abbrev pub value : (ℕ → Finite) → Node → Finite

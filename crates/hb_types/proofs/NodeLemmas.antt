@@ -1,5 +1,5 @@
 -- What two nodes say together is what their join says with the equations between their parts.
-use Rattle.std.proofs.Common.{◌≡◌, ℕ, ◌+◌, ◌*◌, ◌<◌, ◌≤◌, ◌==◌, List, [], ◌∷◌, ◌++◌, length, Option, Some, None, Bool, true, false, cond, sym, refl, ap, ◌∙◌, subst, arith, eq-eqb}
+use Rattle.std.proofs.Common.{◌≡◌, ℕ, ◌≤◌, ◌==◌, List, [], ◌∷◌, ◌++◌, length, Option, Some, None, Bool, true, false, cond, sym, refl, ap, ◌∙◌, subst, arith, eq-eqb}
 use Rattle.std.proofs.lemmas.Bool.Decides.{nat_tests}
 use Rattle.hb_types.specs.declared.node.Atom.{Atom}
 use Rattle.hb_types.specs.declared.node.Atom.TheVariants.{Var, Con, Nat}
@@ -7,7 +7,7 @@ use Rattle.hb_types.specs.declared.node.Node.{Node}
 use Rattle.hb_types.specs.declared.node.Node.TheVariants.{Free, Link, Leaf, Apply}
 use Rattle.hb_types.specs.declared.node.Pair.{Pair}
 use Rattle.hb_types.specs.Finite.{Finite, Single, Applied}
-use Rattle.hb_types.specs.Joined.{at, same_atom, joined, parts}
+use Rattle.hb_types.specs.Joined.{same_atom, joined, parts}
 use Rattle.hb_types.specs.Graph.{Says, Within, IsRoot, AreWithin, Agree, one_root}
 
 eqb_of : (n m : ℕ) → (n == m) ≡ true → n ≡ m

@@ -1,8 +1,6 @@
 -- Going down a graph: nodes that are done have types that obey it, and a node below itself has none.
-use Rattle.std.proofs.Common.{◌≡◌, ◌≢◌, ℕ, zero, suc, ◌+◌, ◌*◌, ◌<◌, ◌≤◌, ◌⊎◌, inl, inr, List, [], ◌∷◌, ◌++◌, length, reverse, get_or, set, replicate, Option, Some, None, sym, refl, ap, ◌∙◌, subst, arith, ⊎_elim, length-append, length-set, get_or-set_same, get_or-set_other}
-use Rattle.std.specs.List.{sum_by}
+use Rattle.std.proofs.Common.{◌≡◌, ◌≢◌, ℕ, zero, suc, ◌+◌, ◌<◌, ◌⊎◌, inl, inr, List, [], ◌∷◌, ◌++◌, length, reverse, set, replicate, Option, Some, None, sym, refl, ap, ◌∙◌, subst, arith, ⊎_elim, length-set, get_or-set_same, get_or-set_other}
 use Rattle.std.proofs.lemmas.List.{reverse-append, get_or_past}
-use Rattle.std.proofs.lemmas.List.Sums.{sum_by-set}
 use Rattle.std.proofs.lemmas.Bool.{cases_eq, cases_lt}
 use Rattle.hb_types.specs.declared.node.Atom.TheVariants as atom
 use Rattle.hb_types.specs.declared.node.Node.{Node}
@@ -12,7 +10,7 @@ use Rattle.hb_types.specs.declared.order.Mark.TheVariants.{New, Open, Done}
 use Rattle.hb_types.specs.Finite.{Finite, Single, Applied}
 use Rattle.hb_types.specs.Joined.{at}
 use Rattle.hb_types.specs.Graph.{Says, Within, Obeys, IsGraph}
-use Rattle.hb_types.specs.Order.{marked, unless_done, first_undone, size, Falls, AllFall, Chain, Member, AllBelow, Ready, Settled, Walked, Touched, one_new, steps_left}
+use Rattle.hb_types.specs.Order.{marked, unless_done, first_undone, size, Falls, AllFall, Member, Ready, Settled, Walked, Touched}
 use Rattle.hb_types.proofs.LoadLemmas.{value, value-says, with_at, with_at-same, with_at-other}
 
 marked_here : (marks : List Mark) (node : ℕ) (m : Mark) → node < length marks → marked (set marks node m) node ≡ m

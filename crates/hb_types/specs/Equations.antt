@@ -1,5 +1,5 @@
 -- The equations that were taken in: which finite types for the unknowns make them true.
-use Rattle.std.specs.Prelude.{◌≡◌, ℕ, ◌+◌, ◌<◌, ◌≤◌, ◌↔◌, List, length}
+use Rattle.std.specs.Prelude.{◌≡◌, ℕ, ◌+◌, ◌↔◌, List, length}
 use Rattle.hb_types.specs.declared.node.Node.{Node}
 use Rattle.hb_types.specs.declared.types.Ty.{Ty}
 use Rattle.hb_types.specs.declared.types.Ty as ty

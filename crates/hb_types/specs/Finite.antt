@@ -1,5 +1,4 @@
 -- Finite types without unknowns.
-use Rattle.std.specs.Prelude.{ℕ}
 use Rattle.hb_types.specs.declared.node.Atom.{Atom}
 
 -- a variable of a scheme stands for itself, as a constructor and a number do

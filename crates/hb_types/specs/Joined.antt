@@ -1,5 +1,5 @@
 -- What two nodes say together.
-use Rattle.std.specs.Prelude.{ℕ, Bool, true, false, cond, ◌==◌, List, [], ◌∷◌, Option, Some, None, slice_index_or}
+use Rattle.std.specs.Prelude.{ℕ, Bool, false, cond, ◌==◌, List, [], ◌∷◌, Option, Some, None, slice_index_or}
 use Rattle.hb_types.specs.declared.node.Atom.{Atom}
 use Rattle.hb_types.specs.declared.node.Atom.TheVariants.{Var, Con, Nat}
 use Rattle.hb_types.specs.declared.node.Node.{Node}

@@ -1,5 +1,5 @@
 -- Nodes in an order in which each stands after its parts.
-use Rattle.std.specs.Prelude.{◌≡◌, ◌≢◌, ℕ, ◌+◌, ◌*◌, ◌<◌, ◌⊎◌, List, [], ◌∷◌, length, Option, Some, None, slice_index_or}
+use Rattle.std.specs.Prelude.{◌≡◌, ℕ, ◌+◌, ◌*◌, ◌<◌, ◌⊎◌, List, [], ◌∷◌, length, Option, Some, None, slice_index_or}
 use Rattle.std.specs.List.{sum_by}
 use Rattle.hb_types.specs.declared.node.Node.{Node}
 use Rattle.hb_types.specs.declared.node.Node.TheVariants.{Free, Link, Leaf, Apply}

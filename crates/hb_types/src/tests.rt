@@ -6,7 +6,6 @@ use crate::error::EquateError;
 use crate::types::{Kind, Ty};
 use crate::unknowns::Unknowns;
 use hb_base::Memory;
-use sqlite_items::Boxed;
 use std::alloc::Global;
 use std::test::Fail;
 
@@ -36,10 +35,9 @@ fn takes(all: &mut Unknowns, a: &Ty, b: &Ty) -> bool
 fn pair(alloc: Global, number: u64) -> Result<Ty, Memory>
     ensures { IfOk result (λ t. (count : ℕ) → number < count → HasUnknownsBelow count t) }
 {
-    let first = Boxed::new(alloc, Ty::Unknown(number))?;
-    let half = Boxed::new(alloc, Ty::Apply(Boxed::new(alloc, Ty::Con(0))?, first))?;
-    let second = Boxed::new(alloc, Ty::Unknown(number))?;
-    Ok(Ty::Apply(half, second))
+    let half = Ty::apply(alloc, Ty::Con(0), Ty::Unknown(number))?;
+    let whole = Ty::apply(alloc, half, Ty::Unknown(number))?;
+    Ok(whole)
 }
 
 #[test]

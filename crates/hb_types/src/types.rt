@@ -1,5 +1,4 @@
 ghost use Rattle.std.specs.Prelude.{◌≡◌, IfOk};
-ghost use Rattle.hb_types.specs.Instance.{instance};
 
 use hb_base::{List, Memory};
 use sqlite_items::Boxed;
@@ -49,6 +48,15 @@ pub struct InstanceUse {
 }
 
 impl Ty {
+    /// `f` applied to `x`.
+    pub fn apply(alloc: Global, f: Ty, x: Ty) -> Result<Ty, Memory>
+        ensures { IfOk result (λ t. t ≡ Ty.Apply f x) }
+    {
+        let f = Boxed::new(alloc, f)?;
+        let x = Boxed::new(alloc, x)?;
+        Ok(Ty::Apply(f, x))
+    }
+
     /// The same type again.
     pub fn copy(&self, alloc: Global) -> Result<Ty, Memory>
         ensures { IfOk result (λ t. t ≡ self.now) }

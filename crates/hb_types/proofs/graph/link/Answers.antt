@@ -1,6 +1,6 @@
-use Rattle.std.proofs.Common.{◌≡◌, ◌++◌, Option, Some, None, sym, refl, ap, ◌∙◌, subst}
+use Rattle.std.proofs.Common.{◌≡◌, ◌++◌, Some, ap, ◌∙◌}
 use Rattle.hb_types.specs.Joined.{at, joined, parts}
-use Rattle.hb_types.proofs.GraphLemmas.{linked, clashed}
+use Rattle.hb_types.proofs.GraphLemmas.{linked}
 use Rattle.hb_types.proofs.graph.link.Goals as goal
 
 pub returns : goal.returns

@@ -1,5 +1,5 @@
 use Rattle.std.proofs.Common.{◌≡◌, true, false, rules, arith}
-use Rattle.hb_types.proofs.GraphLemmas.{met-start, met-turn, met-end, met-clash, last-within, last-work}
+use Rattle.hb_types.proofs.GraphLemmas.{met-turn, met-clash, last-within}
 use Rattle.hb_types.proofs.graph.unify.Goals as goal
 
 pub turn-requires-clause-left : goal.turn-requires-clause-left

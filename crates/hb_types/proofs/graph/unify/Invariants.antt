@@ -1,4 +1,3 @@
-use Rattle.std.proofs.Common.{◌≡◌}
 use Rattle.hb_types.specs.Graph.{Met, work}
 use Rattle.hb_types.proofs.graph.unify.Given as goal
 

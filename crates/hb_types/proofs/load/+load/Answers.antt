@@ -1,8 +1,8 @@
-use Rattle.std.proofs.Common.{◌≡◌, ◌<◌, ◌++◌, ◌∷◌, [], length, rules, arith, sym, ap, ◌∙◌, subst}
+use Rattle.std.proofs.Common.{◌<◌, length, rules, arith, sym, ap, ◌∙◌}
 use Rattle.hb_types.specs.declared.node.Atom.TheVariants as atom
 use Rattle.hb_types.specs.Finite.{Applied}
-use Rattle.hb_types.specs.Instance.{instance, HasUnknownsBelow, weight}
-use Rattle.hb_types.proofs.LoadLemmas.{loaded-leaf, loaded-unknown, loaded-apply, heads-longer}
+use Rattle.hb_types.specs.Instance.{instance, weight}
+use Rattle.hb_types.proofs.LoadLemmas.{loaded-leaf, loaded-apply, heads-longer}
 use Rattle.hb_types.proofs.InstanceLemmas.{instance-apply, known-parts, weight-parts}
 use Rattle.hb_types.proofs.load.+load.Goals as goal
 

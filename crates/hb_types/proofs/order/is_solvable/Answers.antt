@@ -1,5 +1,5 @@
-use Rattle.std.proofs.Common.{◌≡◌, ◌<◌, length, rules, arith}
-use Rattle.hb_types.proofs.OrderLemmas.{walked-start, begun, solved, next-start, skip-start}
+use Rattle.std.proofs.Common.{◌≡◌, length, rules, arith}
+use Rattle.hb_types.proofs.OrderLemmas.{walked-start}
 use Rattle.hb_types.proofs.order.is_solvable.Goals as goal
 
 pub loop-start-init : goal.loop-start-init

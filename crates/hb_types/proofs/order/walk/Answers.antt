@@ -1,7 +1,7 @@
-use Rattle.std.proofs.Common.{◌≡◌, ◌<◌, ◌++◌, [], ◌∷◌, List, ℕ, length, reverse, Option, Some, None, set, sym, refl, ap, ◌∙◌, subst, arith, rules}
+use Rattle.std.proofs.Common.{◌≡◌, ◌∷◌, reverse, Some, None, sym, ap, ◌∙◌, arith}
 use Rattle.hb_types.specs.Joined.{at}
-use Rattle.hb_types.specs.declared.order.Mark.TheVariants.{New, Open, Done}
-use Rattle.hb_types.specs.Order.{Walked, Touched, marked, first_undone}
+use Rattle.hb_types.specs.declared.order.Mark.TheVariants.{New}
+use Rattle.hb_types.specs.Order.{marked, first_undone}
 use Rattle.hb_types.proofs.OrderLemmas.{finished, visited, cyclic, touched-done, touched-open, top-first}
 use Rattle.hb_types.proofs.order.walk.Goals as goal
 

@@ -1,4 +1,4 @@
-use Rattle.std.proofs.Common.{◌≡◌, ◌∷◌, [], ◌++◌, true, false, ap, sym, ◌∙◌, rules, arith}
+use Rattle.std.proofs.Common.{◌≡◌, ◌∷◌, [], ◌++◌, true, false, ap, ◌∙◌, rules, arith}
 use Rattle.hb_types.specs.Joined.{pair}
 use Rattle.hb_types.proofs.EquationLemmas.{taken, impossible, unsolved}
 use Rattle.hb_types.proofs.unknowns.take_in.Goals as goal
