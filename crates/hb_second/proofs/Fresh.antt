@@ -165,9 +165,11 @@ high_enough i = grind (arith, nat_tests)
 -- an address that no port has
 pub new_address : (ps : List Port) → length ps < 256 → (w : List ℕ) × NewAddress ps w
 new_address ps h =
-    let f = free (λ i p. p.address == 2147483648 + i) addresses_alone 256 ps h in
-    (address_at f.0, record {
-      digits = address_literal f.0 f.1;
-      high = rw (address_is f.0 f.1) (high_enough f.0);
-      new_address = rw (address_is f.0 f.1) (rw f.2 refl);
-    })
+    let f = free (λ i p. p.address == 2147483648 + i) addresses_alone 256 ps h in (
+      address_at f.0,
+      record {
+        digits = address_literal f.0 f.1;
+        high = rw (address_is f.0 f.1) (high_enough f.0);
+        new_address = rw (address_is f.0 f.1) (rw f.2 refl);
+      },
+    )

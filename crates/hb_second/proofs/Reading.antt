@@ -100,8 +100,14 @@ form_at : (stage : Stage) → stage ≡ End → (name : List ℕ) (ps : List Por
 form_at stage e name ps vs ss ts k =
     let at_end : KnownAt End name ps vs ss ts = subst (λ s. KnownAt s name ps vs ss ts) e k in
     record {
-      variables = vs; port_tokens = at_end.0.port_tokens; body_tokens = at_end.0.body_tokens;
-      ports = at_end.0.ports; body = at_end.0.body; tokens = at_end.0.tokens; few_ports = at_end.0.few; few_statements = at_end.1;
+      variables = vs;
+      port_tokens = at_end.0.port_tokens;
+      body_tokens = at_end.0.body_tokens;
+      ports = at_end.0.ports;
+      body = at_end.0.body;
+      tokens = at_end.0.tokens;
+      few_ports = at_end.0.few;
+      few_statements = at_end.1;
     }
 
 -- at the end the tokens are a source

@@ -66,7 +66,10 @@ taken ts i x r n fits lt ex h e f =
 -- or is not
 pub not_taken : (ts : List Placed) (i : ℕ) (x : Placed) (r n : Reader) (fits : Bool) → i < length ts → x ≡ get_or ts i x → steps start (texts (take i ts)) ≡ Some r → step r x.token ≡ given fits n → fits ≡ false → Stopped ts x.place
 not_taken ts i x r n fits lt ex h e f = record {
-  before = take i ts; after = drop (suc i) ts; t = x; reader = r;
+  before = take i ts;
+  after = drop (suc i) ts;
+  t = x;
+  reader = r;
   tokens = sym (take-append-drop i ts) ∙ ap (λ us. take i ts ++ us) (drop-cons ts i x lt ∙ ap (λ y. y ∷ drop (suc i) ts) (sym ex));
   reads = h;
   stops = e ∙ ap (λ b. given b n) f;

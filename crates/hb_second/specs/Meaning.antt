@@ -45,8 +45,8 @@ goes zero ss values lines = nothing_yet
 goes (suc n) [] values lines = ended Done
 goes (suc n) (Read port ∷ ss) values lines =
     elim (first_value port lines) [
-      None ↦ ended (InputEnd port)
-    | Some v ↦ after_event (ShowsRead port v) (goes n ss (values ++ v ∷ []) (without_first port lines))
+      | None ↦ ended (InputEnd port)
+      | Some v ↦ after_event (ShowsRead port v) (goes n ss (values ++ v ∷ []) (without_first port lines))
     ]
 goes (suc n) (Write port (OneAtom a) ∷ ss) values lines = after_event (Wrote port (value values a)) (goes n ss values lines)
 goes (suc n) (Write port (Operation a operator b) ∷ ss) values lines =
