@@ -1,6 +1,6 @@
 -- What a reader has read is what its stage, its ports and its statements say.
 use Rattle.std.proofs.Common.{◌≡◌, ℕ, ◌+◌, ◌<◌, ◌≤◌, Bool, true, false, cond, List, [], ◌∷◌, ◌++◌, length, Option, Some, None, refl, sym, ap, subst, ◌∙◌, ◌⊎◌, inl, inr, ⊎_elim, arith, length-append, append_assoc}
-use Rattle.std.specs.Prelude.{◌&&◌, ◌||◌, not, nat_lt, nat_le, codes, option_and_then}
+use Rattle.std.specs.Prelude.{◌&&◌, ◌||◌, nat_lt, nat_le, codes}
 use Rattle.std.specs.Str.{bytes_eq}
 use Rattle.std.proofs.lemmas.Bool.Decides.{nat_tests}
 use Rattle.hb_base.specs.declared.port.Port.{Port}
@@ -14,17 +14,16 @@ use Rattle.hb_second.specs.declared.source.Argument.{Argument}
 use Rattle.hb_second.specs.declared.source.Argument.TheVariants.{Atom as OneAtom, Operation}
 use Rattle.hb_second.specs.declared.source.Statement.{Statement}
 use Rattle.hb_second.specs.declared.source.Statement.TheVariants.{Read, Write}
-use Rattle.hb_second.specs.declared.source.Source.{Source}
 use Rattle.hb_second.specs.declared.stage.Stage.{Stage}
 use Rattle.hb_second.specs.declared.stage.Stage.TheVariants.{Fixed as At, Next, Name, Direction, Address, PortEnd, Line, From, To, Value, First, Between, Second, Closing, Written, End}
 use Rattle.hb_second.specs.declared.stage.Fixed.{Fixed}
 use Rattle.hb_second.specs.declared.stage.Fixed.TheVariants.{Open, PortColons, WidthOpen, WidthWord, WidthEight, WidthClose, AtWord, MainColons, MainMonad, MainUnit, MainEnd, MainName, MainEquals, MainDo, MainOpen, Arrow, ReadWord, ReadEnd, LastClose}
 use Rattle.hb_second.specs.declared.reader.Reader.{Reader}
-use Rattle.hb_second.specs.Names.{is_new_name, is_free_name, has_port, find_port, same_way, atom_of, operator_of}
+use Rattle.hb_second.specs.Names.{is_new_name, has_port, find_port, atom_of, operator_of}
 use Rattle.hb_second.specs.Literals.{address_value, is_literal}
-use Rattle.hb_second.specs.Form.{word, mark, way_word, port_line, main_line, separator, read_line, write_line, whole, is_new_address, port_of, IsNextPort, Ports, no_port, one_port_more, ArgumentIs, atom, operation, Body, no_statement, one_read_more, one_write_more, Form}
-use Rattle.hb_second.specs.Moves.{step, steps, move_at, move_next, move_direction, move_line, move_value, move_written, put_atom, put_read, put_write, put_port, go_on, expected, same_token, given, word_of, named_port, may_be_in, may_read, is_port_address, at_stage, start}
-use Rattle.hb_second.proofs.Tests.{mk, steps_one, and_both, and_left, and_right, same_token_is, word_is, word_same, word_with, Given, given_is}
+use Rattle.hb_second.specs.Form.{word, mark, way_word, port_line, main_line, separator, read_line, write_line, port_of, Ports, no_port, one_port_more, ArgumentIs, atom, operation, Body, no_statement, one_read_more, one_write_more}
+use Rattle.hb_second.specs.Moves.{move_at, put_atom, put_read, go_on, expected, same_token, given, word_of, named_port, may_be_in, is_port_address}
+use Rattle.hb_second.proofs.StepLaws.{mk, and_left, and_right, same_token_is, word_same, word_with, given_is}
 use Rattle.hb_second.proofs.Alive.{WayFits, out_last, out_after}
 
 -- among the ports: what is read of the next one

@@ -1,9 +1,8 @@
 -- What the reader's answer says of the bytes.
-use Rattle.std.proofs.Common.{◌≡◌, ℕ, suc, ◌+◌, ◌<◌, Bool, true, false, List, [], ◌∷◌, ◌++◌, length, take, drop, get_or, Option, Some, None, Result, Ok, Err, refl, sym, ap, subst, ◌∙◌, append_assoc, drop-cons}
+use Rattle.std.proofs.Common.{◌≡◌, ℕ, suc, ◌+◌, ◌<◌, Bool, true, false, List, [], ◌∷◌, ◌++◌, length, take, drop, get_or, Some, Result, Ok, Err, refl, sym, ap, subst, ◌∙◌, append_assoc, drop-cons}
 use Rattle.std.specs.Prelude.{MatchResult}
 use Rattle.std.proofs.lemmas.List.{take_more, take-append-drop}
 use Rattle.hb_base.specs.declared.place.Place.{Place}
-use Rattle.hb_second.specs.declared.token.Token.{Token}
 use Rattle.hb_second.specs.declared.token.Placed.{Placed}
 use Rattle.hb_second.specs.declared.source.Source.{Source}
 use Rattle.hb_second.specs.declared.stage.Stage.TheVariants.{End}
@@ -12,7 +11,7 @@ use Rattle.hb_second.specs.Bytes.{first_place, place_after}
 use Rattle.hb_second.specs.Scan.{tokens_of}
 use Rattle.hb_second.specs.Tokens.{Tokens}
 use Rattle.hb_second.specs.Form.{Form}
-use Rattle.hb_second.specs.Spelling.{texts, Spells, CanGoOn, FirstWrong, at_token, at_end, IsRead, IsWrong}
+use Rattle.hb_second.specs.Spelling.{texts, Spells, at_token, at_end, IsRead, IsWrong}
 use Rattle.hb_second.specs.Moves.{start, steps, step, given, Stopped}
 use Rattle.hb_second.proofs.TokensLaws.{tokens_are, tokens_unique}
 use Rattle.hb_second.proofs.Reading.{steps_on, steps_last, form_of, can_go_on, cannot_go_on, no_form, one_form}
