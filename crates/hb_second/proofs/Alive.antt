@@ -1,9 +1,8 @@
 -- Every reader that tokens lead to can be led on to the end.
-use Rattle.std.proofs.Common.{◌≡◌, ℕ, suc, ◌+◌, ◌<◌, ◌≤◌, Bool, true, false, cond, List, [], ◌∷◌, ◌++◌, length, Option, Some, None, refl, sym, ap, subst, ◌∙◌, ◌⊎◌, inl, inr, ⊎_elim, arith, length-append}
-use Rattle.std.specs.Prelude.{◌&&◌, ◌||◌, not, nat_lt, nat_le, codes, position}
-use Rattle.std.specs.List.{list_any, prefix_len, position_or_len}
+use Rattle.std.proofs.Common.{◌≡◌, ℕ, suc, ◌+◌, ◌<◌, Bool, true, false, cond, List, [], ◌∷◌, ◌++◌, length, Some, None, refl, ap, ◌∙◌, ◌⊎◌, inl, inr, ⊎_elim, arith, length-append}
+use Rattle.std.specs.Prelude.{◌&&◌, ◌||◌, not, nat_lt, codes}
+use Rattle.std.specs.List.{list_any, position_or_len}
 use Rattle.std.specs.Str.{bytes_eq}
-use Rattle.std.proofs.lemmas.Bool.{cases_lt}
 use Rattle.std.proofs.lemmas.Bool.Decides.{nat_tests}
 use Rattle.std.proofs.lemmas.List.Folds.{list_any-append}
 use Rattle.std.proofs.lemmas.Slice.Eq.{bytes_eq-Decides}
@@ -11,22 +10,20 @@ use Rattle.hb_base.specs.declared.port.Port.{Port}
 use Rattle.hb_base.specs.declared.port.Dir.{Dir}
 use Rattle.hb_base.specs.declared.port.Dir.TheVariants.{In, Out}
 use Rattle.hb_second.specs.declared.token.Token.{Token}
-use Rattle.hb_second.specs.declared.token.Token.TheVariants.{Word, Symbols, Colons, Mark}
+use Rattle.hb_second.specs.declared.token.Token.TheVariants.{Word, Symbols, Colons}
 use Rattle.hb_second.specs.declared.source.Atom.{Atom}
 use Rattle.hb_second.specs.declared.source.Operator.{Operator}
 use Rattle.hb_second.specs.declared.source.Statement.{Statement}
 use Rattle.hb_second.specs.declared.source.Statement.TheVariants.{Read}
-use Rattle.hb_second.specs.declared.stage.Stage.{Stage}
 use Rattle.hb_second.specs.declared.stage.Stage.TheVariants.{Fixed as At, Next, Name, Direction, Address, PortEnd, Line, From, To, Value, First, Between, Second, Closing, Written, End}
-use Rattle.hb_second.specs.declared.stage.Fixed.{Fixed}
-use Rattle.hb_second.specs.declared.stage.Fixed.TheVariants.{Open, PortColons, WidthOpen, WidthWord, WidthEight, WidthClose, AtWord, MainColons, MainMonad, MainUnit, MainEnd, MainName, MainEquals, MainDo, MainOpen, Arrow, ReadWord, ReadEnd, LastClose}
+use Rattle.hb_second.specs.declared.stage.Fixed.TheVariants.{PortColons, WidthOpen, WidthWord, WidthEight, WidthClose, AtWord, MainColons, MainMonad, MainUnit, MainEnd, MainName, MainEquals, MainDo, MainOpen, Arrow, ReadWord, ReadEnd, LastClose}
 use Rattle.hb_second.specs.declared.reader.Reader.{Reader}
 use Rattle.hb_second.specs.Names.{is_new_name, has_port, find_port, same_way}
 use Rattle.hb_second.specs.Literals.{address_value}
 use Rattle.hb_second.specs.Form.{word, mark}
-use Rattle.hb_second.specs.Moves.{step, steps, given, may_be_in, is_port_address}
-use Rattle.hb_second.proofs.Tests.{mk, steps_one, and_both}
-use Rattle.hb_second.proofs.Fresh.{new_name, new_address, NewAddress}
+use Rattle.hb_second.specs.Moves.{step, steps, given, is_port_address}
+use Rattle.hb_second.proofs.StepLaws.{mk, steps_one, and_both}
+use Rattle.hb_second.proofs.Fresh.{new_name, new_address}
 
 -- some tokens lead to the end
 pub record Alive (r : Reader) : Type 0 where

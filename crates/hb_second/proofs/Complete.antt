@@ -1,7 +1,6 @@
 -- A reader takes all tokens of each source of the form.
-use Rattle.std.proofs.Common.{◌≡◌, ℕ, ◌+◌, ◌<◌, ◌≤◌, Bool, true, false, cond, List, [], ◌∷◌, ◌++◌, length, Option, Some, None, refl, sym, ap, subst, ◌∙◌, ◌⊎◌, inl, inr, ⊎_elim, arith, length-append, append_assoc}
-use Rattle.std.specs.Prelude.{◌&&◌, ◌||◌, not, nat_lt, nat_le, codes, position}
-use Rattle.std.specs.List.{list_any, position_or_len}
+use Rattle.std.proofs.Common.{◌≡◌, ℕ, ◌+◌, ◌<◌, ◌≤◌, Bool, true, false, cond, List, [], ◌∷◌, ◌++◌, length, Some, refl, sym, ap, subst, ◌∙◌, ⊎_elim, arith, length-append, append_assoc}
+use Rattle.std.specs.Prelude.{◌&&◌, ◌||◌, nat_lt, nat_le, codes}
 use Rattle.std.specs.Str.{bytes_eq}
 use Rattle.std.proofs.lemmas.Bool.Decides.{nat_tests}
 use Rattle.std.proofs.lemmas.Bool.{cases_lt, false≢true}
@@ -14,7 +13,6 @@ use Rattle.hb_base.specs.declared.port.Dir.TheVariants.{In, Out}
 use Rattle.hb_second.specs.declared.token.Token.{Token}
 use Rattle.hb_second.specs.declared.token.Token.TheVariants.{Word, Symbols, Colons, Mark}
 use Rattle.hb_second.specs.declared.source.Atom.{Atom}
-use Rattle.hb_second.specs.declared.source.Operator.{Operator}
 use Rattle.hb_second.specs.declared.source.Argument.{Argument}
 use Rattle.hb_second.specs.declared.source.Argument.TheVariants.{Atom as OneAtom, Operation}
 use Rattle.hb_second.specs.declared.source.Statement.{Statement}
@@ -22,15 +20,14 @@ use Rattle.hb_second.specs.declared.source.Statement.TheVariants.{Read, Write}
 use Rattle.hb_second.specs.declared.source.Source.{Source}
 use Rattle.hb_second.specs.declared.stage.Stage.{Stage}
 use Rattle.hb_second.specs.declared.stage.Stage.TheVariants.{Fixed as At, Next, Name, Direction, Address, PortEnd, Line, From, To, Value, First, Between, Second, Closing, Written, End}
-use Rattle.hb_second.specs.declared.stage.Fixed.{Fixed}
-use Rattle.hb_second.specs.declared.stage.Fixed.TheVariants.{Open, PortColons, WidthOpen, WidthWord, WidthEight, WidthClose, AtWord, MainColons, MainMonad, MainUnit, MainEnd, MainName, MainEquals, MainDo, MainOpen, Arrow, ReadWord, ReadEnd, LastClose}
+use Rattle.hb_second.specs.declared.stage.Fixed.TheVariants.{PortColons, WidthOpen, WidthWord, WidthEight, WidthClose, AtWord, MainColons, MainMonad, MainUnit, MainEnd, MainName, MainEquals, MainDo, MainOpen, Arrow, ReadWord, ReadEnd}
 use Rattle.hb_second.specs.declared.reader.Reader.{Reader}
-use Rattle.hb_second.specs.Names.{is_new_name, has_port, find_port, same_way, atom_of, operator_of}
-use Rattle.hb_second.specs.Literals.{address_value, is_literal}
-use Rattle.hb_second.specs.Form.{word, mark, way_word, port_line, main_line, separator, read_line, write_line, whole, is_new_address, port_of, IsNextPort, Ports, no_port, one_port_more, ArgumentIs, atom, operation, Body, no_statement, one_read_more, one_write_more, Form}
-use Rattle.hb_second.specs.Moves.{step, steps, given, may_be_in, is_port_address, put_write, start}
-use Rattle.hb_second.proofs.Tests.{mk, steps_one, and_both, and_left}
-use Rattle.hb_second.proofs.Alive.{lt_yes, out_last, out_after}
+use Rattle.hb_second.specs.Names.{is_new_name, has_port, find_port, same_way, atom_of}
+use Rattle.hb_second.specs.Literals.{address_value}
+use Rattle.hb_second.specs.Form.{word, mark, way_word, port_line, main_line, separator, read_line, write_line, port_of, IsNextPort, Ports, no_port, one_port_more, ArgumentIs, atom, operation, Body, no_statement, one_read_more, one_write_more, Form}
+use Rattle.hb_second.specs.Moves.{step, steps, given, may_be_in, is_port_address, start}
+use Rattle.hb_second.proofs.StepLaws.{mk, steps_one, and_both, and_left}
+use Rattle.hb_second.proofs.Alive.{lt_yes}
 
 given_true : (b : Bool) (r : Reader) → b ≡ true → given b r ≡ Some r
 given_true b r e = rw e refl

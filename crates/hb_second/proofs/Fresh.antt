@@ -1,7 +1,7 @@
 -- There is always a name and an address that no port has yet.
-use Rattle.std.proofs.Common.{◌≡◌, ℕ, zero, suc, ◌+◌, ◌-◌, ◌*◌, ◌/◌, ◌%◌, ◌<◌, ◌≤◌, ◌^◌, Bool, true, false, cond, List, [], ◌∷◌, ◌++◌, length, refl, sym, ap, subst, ◌∙◌, ◌⊎◌, inl, inr, ⊎_elim, arith}
+use Rattle.std.proofs.Common.{◌≡◌, ℕ, zero, suc, ◌+◌, ◌/◌, ◌%◌, ◌<◌, ◌≤◌, Bool, true, false, cond, List, [], ◌∷◌, length, refl, sym, ap, ◌∙◌, ◌⊎◌, inl, inr, ⊎_elim, arith}
 use Rattle.std.specs.Prelude.{◌&&◌, ◌||◌, not, ◌==◌, nat_le, nat_lt, slice_index, if◌then◌else◌}
-use Rattle.std.specs.List.{list_any, list_all}
+use Rattle.std.specs.List.{list_any}
 use Rattle.std.specs.Str.{bytes_eq}
 use Rattle.std.proofs.lemmas.Bool.{cases_lt}
 use Rattle.std.proofs.lemmas.Bool.Decides.{Decides-eqb, nat_tests}
@@ -12,7 +12,7 @@ use Rattle.hb_second.specs.declared.token.Placed.{Placed}
 use Rattle.hb_second.specs.Names.{is_free_name, is_short_lower, is_the_word, is_new_name, taken_words}
 use Rattle.hb_second.specs.Scan.{tokens_of, scan}
 use Rattle.hb_second.specs.Literals.{is_hex, digit_value, is_literal, address_value}
-use Rattle.hb_second.specs.Form.{is_new_address, IsNextPort}
+use Rattle.hb_second.specs.Form.{is_new_address}
 
 -- each port is one number's at most
 abbrev Alone : (ℕ → Port → Bool) → Type 0
@@ -165,9 +165,11 @@ high_enough i = grind (arith, nat_tests)
 -- an address that no port has
 pub new_address : (ps : List Port) → length ps < 256 → (w : List ℕ) × NewAddress ps w
 new_address ps h =
-    let f = free (λ i p. p.address == 2147483648 + i) addresses_alone 256 ps h in
-    (address_at f.0, record {
-      digits = address_literal f.0 f.1;
-      high = rw (address_is f.0 f.1) (high_enough f.0);
-      new_address = rw (address_is f.0 f.1) (rw f.2 refl);
-    })
+    let f = free (λ i p. p.address == 2147483648 + i) addresses_alone 256 ps h in (
+      address_at f.0,
+      record {
+        digits = address_literal f.0 f.1;
+        high = rw (address_is f.0 f.1) (high_enough f.0);
+        new_address = rw (address_is f.0 f.1) (rw f.2 refl);
+      },
+    )

@@ -1,6 +1,6 @@
 pub mod ScanSteps
 pub mod TokensLaws
-pub mod Tests
+pub mod StepLaws
 pub mod Fresh
 pub mod Alive
 pub mod Sound

@@ -1,9 +1,9 @@
 -- What a reader says of the tokens that it was given: whether a source begins with them, and which one they are.
-use Rattle.std.proofs.Common.{◌≡◌, ℕ, ◌<◌, ◌≤◌, Bool, true, false, List, [], ◌∷◌, ◌++◌, length, Option, Some, None, refl, sym, ap, subst, ◌∙◌, ◌⊎◌, inl, inr, ⊎_elim, arith, append_assoc}
+use Rattle.std.proofs.Common.{◌≡◌, ℕ, ◌<◌, ◌≤◌, Bool, true, false, List, [], ◌∷◌, ◌++◌, length, Option, Some, None, refl, sym, ap, subst, ◌∙◌, inr, arith, append_assoc}
 use Rattle.std.specs.Prelude.{option_and_then}
 use Rattle.hb_base.specs.declared.port.Port.{Port}
 use Rattle.hb_base.specs.declared.port.Dir.{Dir}
-use Rattle.hb_base.specs.declared.port.Dir.TheVariants.{In, Out}
+use Rattle.hb_base.specs.declared.port.Dir.TheVariants.{Out}
 use Rattle.hb_second.specs.declared.token.Token.{Token}
 use Rattle.hb_second.specs.declared.source.Statement.{Statement}
 use Rattle.hb_second.specs.declared.source.Source.{Source}
@@ -15,8 +15,8 @@ use Rattle.hb_second.specs.declared.reader.Reader.{Reader}
 use Rattle.hb_second.specs.Form.{Form, mark}
 use Rattle.hb_second.specs.Spelling.{CanGoOn}
 use Rattle.hb_second.specs.Moves.{step, steps, start}
-use Rattle.hb_second.proofs.Tests.{mk, steps_one, steps_append}
-use Rattle.hb_second.proofs.Alive.{Alive, by_step, PortEnds, ends_any, end_alive, last_alive, written_alive, closing_alive, second_alive, between_alive, first_alive, value_alive, to_alive, line_alive, read_end_alive, from_alive, read_word_alive, arrow_alive, main_open_alive, main_do_alive, main_equals_alive, main_name_alive, main_end_alive, main_unit_alive, main_monad_alive, main_colons_alive, address_alive, at_word_alive, width_close_alive, width_eight_alive, width_word_alive, width_open_alive, direction_alive, port_colons_alive, name_alive, next_alive}
+use Rattle.hb_second.proofs.StepLaws.{mk, steps_one, steps_append}
+use Rattle.hb_second.proofs.Alive.{Alive, by_step, ends_any, end_alive, last_alive, written_alive, closing_alive, second_alive, between_alive, first_alive, value_alive, to_alive, line_alive, read_end_alive, from_alive, read_word_alive, arrow_alive, main_open_alive, main_do_alive, main_equals_alive, main_name_alive, main_end_alive, main_unit_alive, main_monad_alive, main_colons_alive, address_alive, at_word_alive, width_close_alive, width_eight_alive, width_word_alive, width_open_alive, direction_alive, port_colons_alive, name_alive, next_alive}
 use Rattle.hb_second.proofs.Sound.{Reached, KnownAt, InPorts, InPort, InMain, InBody, InLine, InRead, sound_at}
 use Rattle.hb_second.proofs.Complete.{form_steps}
 
@@ -100,8 +100,14 @@ form_at : (stage : Stage) → stage ≡ End → (name : List ℕ) (ps : List Por
 form_at stage e name ps vs ss ts k =
     let at_end : KnownAt End name ps vs ss ts = subst (λ s. KnownAt s name ps vs ss ts) e k in
     record {
-      variables = vs; port_tokens = at_end.0.port_tokens; body_tokens = at_end.0.body_tokens;
-      ports = at_end.0.ports; body = at_end.0.body; tokens = at_end.0.tokens; few_ports = at_end.0.few; few_statements = at_end.1;
+      variables = vs;
+      port_tokens = at_end.0.port_tokens;
+      body_tokens = at_end.0.body_tokens;
+      ports = at_end.0.ports;
+      body = at_end.0.body;
+      tokens = at_end.0.tokens;
+      few_ports = at_end.0.few;
+      few_statements = at_end.1;
     }
 
 -- at the end the tokens are a source

@@ -1,5 +1,5 @@
 -- What one byte adds to the tokens found.
-use Rattle.std.proofs.Common.{◌≡◌, ℕ, List, [], ◌∷◌, ◌++◌, Option, Some, None, refl, sym, ap, ◌∙◌, append_assoc}
+use Rattle.std.proofs.Common.{◌≡◌, ℕ, List, [], ◌∷◌, ◌++◌, Some, None, refl, sym, ap, ◌∙◌, append_assoc}
 use Rattle.hb_base.specs.declared.place.Place.{Place}
 use Rattle.hb_second.specs.declared.token.Kind.{Kind}
 use Rattle.hb_second.specs.declared.token.Placed.{Placed}

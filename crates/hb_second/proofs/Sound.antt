@@ -1,6 +1,6 @@
 -- What a reader has read is what its stage, its ports and its statements say.
 use Rattle.std.proofs.Common.{◌≡◌, ℕ, ◌+◌, ◌<◌, ◌≤◌, Bool, true, false, cond, List, [], ◌∷◌, ◌++◌, length, Option, Some, None, refl, sym, ap, subst, ◌∙◌, ◌⊎◌, inl, inr, ⊎_elim, arith, length-append, append_assoc}
-use Rattle.std.specs.Prelude.{◌&&◌, ◌||◌, not, nat_lt, nat_le, codes, option_and_then}
+use Rattle.std.specs.Prelude.{◌&&◌, ◌||◌, nat_lt, nat_le, codes}
 use Rattle.std.specs.Str.{bytes_eq}
 use Rattle.std.proofs.lemmas.Bool.Decides.{nat_tests}
 use Rattle.hb_base.specs.declared.port.Port.{Port}
@@ -14,17 +14,16 @@ use Rattle.hb_second.specs.declared.source.Argument.{Argument}
 use Rattle.hb_second.specs.declared.source.Argument.TheVariants.{Atom as OneAtom, Operation}
 use Rattle.hb_second.specs.declared.source.Statement.{Statement}
 use Rattle.hb_second.specs.declared.source.Statement.TheVariants.{Read, Write}
-use Rattle.hb_second.specs.declared.source.Source.{Source}
 use Rattle.hb_second.specs.declared.stage.Stage.{Stage}
 use Rattle.hb_second.specs.declared.stage.Stage.TheVariants.{Fixed as At, Next, Name, Direction, Address, PortEnd, Line, From, To, Value, First, Between, Second, Closing, Written, End}
 use Rattle.hb_second.specs.declared.stage.Fixed.{Fixed}
 use Rattle.hb_second.specs.declared.stage.Fixed.TheVariants.{Open, PortColons, WidthOpen, WidthWord, WidthEight, WidthClose, AtWord, MainColons, MainMonad, MainUnit, MainEnd, MainName, MainEquals, MainDo, MainOpen, Arrow, ReadWord, ReadEnd, LastClose}
 use Rattle.hb_second.specs.declared.reader.Reader.{Reader}
-use Rattle.hb_second.specs.Names.{is_new_name, is_free_name, has_port, find_port, same_way, atom_of, operator_of}
+use Rattle.hb_second.specs.Names.{is_new_name, has_port, find_port, atom_of, operator_of}
 use Rattle.hb_second.specs.Literals.{address_value, is_literal}
-use Rattle.hb_second.specs.Form.{word, mark, way_word, port_line, main_line, separator, read_line, write_line, whole, is_new_address, port_of, IsNextPort, Ports, no_port, one_port_more, ArgumentIs, atom, operation, Body, no_statement, one_read_more, one_write_more, Form}
-use Rattle.hb_second.specs.Moves.{step, steps, move_at, move_next, move_direction, move_line, move_value, move_written, put_atom, put_read, put_write, put_port, go_on, expected, same_token, given, word_of, named_port, may_be_in, may_read, is_port_address, at_stage, start}
-use Rattle.hb_second.proofs.Tests.{mk, steps_one, and_both, and_left, and_right, same_token_is, word_is, word_same, word_with, Given, given_is}
+use Rattle.hb_second.specs.Form.{word, mark, way_word, port_line, main_line, separator, read_line, write_line, port_of, Ports, no_port, one_port_more, ArgumentIs, atom, operation, Body, no_statement, one_read_more, one_write_more}
+use Rattle.hb_second.specs.Moves.{move_at, put_atom, put_read, go_on, expected, same_token, given, word_of, named_port, may_be_in, is_port_address}
+use Rattle.hb_second.proofs.StepLaws.{mk, and_left, and_right, same_token_is, word_same, word_with, given_is}
 use Rattle.hb_second.proofs.Alive.{WayFits, out_last, out_after}
 
 -- among the ports: what is read of the next one
@@ -121,7 +120,10 @@ Reached r ts = KnownAt r.stage r.name r.ports r.variables r.statements ts
 -- one token more
 ports_longer : (ps : List Port) (vs : List (List ℕ)) (ss : List Statement) (ts unit : List Token) (t : Token) → InPorts ps vs ss ts unit → InPorts ps vs ss (ts ++ t ∷ []) (unit ++ t ∷ [])
 ports_longer ps vs ss ts unit t k = record {
-  port_tokens = k.port_tokens; ports = k.ports; no_variables = k.no_variables; no_statements = k.no_statements;
+  port_tokens = k.port_tokens;
+  ports = k.ports;
+  no_variables = k.no_variables;
+  no_statements = k.no_statements;
   tokens = ap (λ us. us ++ t ∷ []) k.tokens ∙ ap (λ us. mark "{" ∷ us) (append_assoc k.port_tokens unit (t ∷ []));
 }
 
@@ -133,9 +135,14 @@ main_longer ps vs ss ts unit t k = record { into = ports_longer ps vs ss ts unit
 
 body_longer : (writes : Bool) (ps : List Port) (vs : List (List ℕ)) (ss : List Statement) (ts unit : List Token) (t : Token) → InBody writes ps vs ss ts unit → InBody writes ps vs ss (ts ++ t ∷ []) (unit ++ t ∷ [])
 body_longer writes ps vs ss ts unit t k = record {
-  port_tokens = k.port_tokens; body_tokens = k.body_tokens; ports = k.ports; body = k.body;
+  port_tokens = k.port_tokens;
+  body_tokens = k.body_tokens;
+  ports = k.ports;
+  body = k.body;
   tokens = ap (λ us. us ++ t ∷ []) k.tokens ∙ simp append_assoc;
-  few = k.few; few_variables = k.few_variables; has_out = k.has_out;
+  few = k.few;
+  few_variables = k.few_variables;
+  has_out = k.has_out;
 }
 
 line_longer : (most : ℕ) (ps : List Port) (vs : List (List ℕ)) (ss : List Statement) (ts unit : List Token) (t : Token) → InLine most ps vs ss ts unit → InLine most ps vs ss (ts ++ t ∷ []) (unit ++ t ∷ [])
@@ -159,7 +166,6 @@ by_some r n ts h f = let e : r ≡ n = cc in subst (λ m. Reached m ts) e f
 
 as_token : (P : Token → Type 0) (t u : Token) → same_token t u ≡ true → P u → P t
 as_token P t u h p = subst P (sym (same_token_is t u h)) p
-
 
 append_nil : (ts : List Token) → ts ++ [] ≡ ts
 append_nil [] = refl
@@ -199,9 +205,14 @@ separator_after (r ∷ rs) s = refl
 -- a statement is done
 statement_done : (writes writes' : Bool) (ps : List Port) (vs vs' : List (List ℕ)) (ss ss' : List Statement) (ts unit : List Token) → (k : InBody writes ps vs ss ts unit) → Body ps writes' vs' ss' (k.body_tokens ++ unit) → length vs' ≤ length ss' → InBody writes' ps vs' ss' ts []
 statement_done writes writes' ps vs vs' ss ss' ts unit k body few = record {
-  port_tokens = k.port_tokens; body_tokens = k.body_tokens ++ unit; ports = k.ports; body = body;
+  port_tokens = k.port_tokens;
+  body_tokens = k.body_tokens ++ unit;
+  ports = k.ports;
+  body = body;
   tokens = k.tokens ∙ ap (λ (us : List Token). mark "{" ∷ (k.port_tokens ++ (main_line ++ us))) (sym (append_nil (k.body_tokens ++ unit)));
-  few = k.few; few_variables = few; has_out = k.has_out;
+  few = k.few;
+  few_variables = few;
+  has_out = k.has_out;
 }
 
 write_done : (k : ℕ) (argument : Argument) (words : List Token) (name : List ℕ) (ps : List Port) (vs : List (List ℕ)) (ss : List Statement) (ts : List Token) → InWrite k ps vs ss ts words → ArgumentIs vs argument words → KnownAt Written name ps vs (ss ++ Write k argument ∷ []) ts
@@ -269,13 +280,17 @@ port_done : (way : Dir) (w name : List ℕ) (ps : List Port) (vs : List (List �
 port_done way w name ps vs ss ts k e =
     let more : length (ps ++ port_of name way w ∷ []) ≡ length ps + 1 = length-append ps _ in
     let few : length ps < 256 = k.few in
-    let high = and_right (is_literal 8 w) _ e in
-    (record {
-      port_tokens = k.into.port_tokens ++ port_line name way w;
-      ports = one_port_more ps k.into.port_tokens name way w k.into.ports (record { new_name = k.new_name; digits = and_left _ _ e; high = le_of _ _ (and_left _ _ high); new_address = and_right (nat_le 0x8000_0000 (address_value w)) _ high });
-      no_variables = k.into.no_variables; no_statements = k.into.no_statements;
-      tokens = k.into.tokens ∙ ap (λ (us : List Token). mark "{" ∷ us) (sym (append_nil (k.into.port_tokens ++ port_line name way w)));
-    }, omega arith, out_or_room way name ps (address_value w) k.way_fits)
+    let high = and_right (is_literal 8 w) _ e in (
+      record {
+        port_tokens = k.into.port_tokens ++ port_line name way w;
+        ports = one_port_more ps k.into.port_tokens name way w k.into.ports (record { new_name = k.new_name; digits = and_left _ _ e; high = le_of _ _ (and_left _ _ high); new_address = and_right (nat_le 0x8000_0000 (address_value w)) _ high });
+        no_variables = k.into.no_variables;
+        no_statements = k.into.no_statements;
+        tokens = k.into.tokens ∙ ap (λ (us : List Token). mark "{" ∷ us) (sym (append_nil (k.into.port_tokens ++ port_line name way w)));
+      },
+      omega arith,
+      out_or_room way name ps (address_value w) k.way_fits,
+    )
 
 port_sound : (way : Dir) (a : ℕ) (name : List ℕ) (ps : List Port) (vs : List (List ℕ)) (ss : List Statement) (ts : List Token) → KnownAt (PortEnd way a) name ps vs ss ts → KnownAt Next [] (ps ++ record { name = name; dir = way; width = 1; address = a } ∷ []) vs ss (ts ++ mark ";" ∷ [])
 port_sound way a name ps vs ss ts k =
@@ -294,8 +309,9 @@ line_sound name ps vs ss ts t n k false e h =
     let w : t ≡ Word (word_of t) = word_with t (is_new_name ps vs) refl new in
     record {
       into = subst (λ (u : Token). InLine 999 ps vs ss (ts ++ t ∷ []) (u ∷ [])) w
-      (line_longer 999 ps vs ss ts [] t (record { writes = k.writes; into = k.into; room = lt_of _ _ (and_left _ _ f) }));
-      new_name = new; has_in = and_left _ _ more;
+          (line_longer 999 ps vs ss ts [] t (record { writes = k.writes; into = k.into; room = lt_of _ _ (and_left _ _ f) }));
+      new_name = new;
+      has_in = and_left _ _ more;
     })
 
 from_by : (name : List ℕ) (ps : List Port) (vs : List (List ℕ)) (ss : List Statement) (ts : List Token) (t : Token) (n : Reader) → KnownAt From name ps vs ss ts → (o : Option ℕ) → named_port In t ps ≡ o → put_read (mk From name ps vs ss) o ≡ Some n → Reached n (ts ++ t ∷ [])
@@ -386,7 +402,9 @@ sound_at Name name ps vs ss ts t n k h =
     (λ e. let w : t ≡ Word (word_of t) = word_with t (is_new_name ps []) refl e in
     record {
       into = subst (λ (u : Token). InPorts ps vs ss (ts ++ t ∷ []) (word "port" ∷ u ∷ [])) w (ports_longer ps vs ss ts _ t k.0);
-      few = k.1; new_name = e; way_fits = tt;
+      few = k.1;
+      new_name = e;
+      way_fits = tt;
     })
 sound_at Direction name ps vs ss ts t n k h = direction_sound name ps vs ss ts t n k (bytes_eq (word_of t) (codes "In")) refl h
 sound_at (Address way) name ps vs ss ts t n k h =

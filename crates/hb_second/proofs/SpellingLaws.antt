@@ -1,9 +1,8 @@
 -- What the reader's answer says of the bytes.
-use Rattle.std.proofs.Common.{◌≡◌, ℕ, suc, ◌+◌, ◌<◌, Bool, true, false, List, [], ◌∷◌, ◌++◌, length, take, drop, get_or, Option, Some, None, Result, Ok, Err, refl, sym, ap, subst, ◌∙◌, append_assoc, drop-cons}
+use Rattle.std.proofs.Common.{◌≡◌, ℕ, suc, ◌+◌, ◌<◌, Bool, true, false, List, [], ◌∷◌, ◌++◌, length, take, drop, get_or, Some, Result, Ok, Err, refl, sym, ap, subst, ◌∙◌, append_assoc, drop-cons}
 use Rattle.std.specs.Prelude.{MatchResult}
 use Rattle.std.proofs.lemmas.List.{take_more, take-append-drop}
 use Rattle.hb_base.specs.declared.place.Place.{Place}
-use Rattle.hb_second.specs.declared.token.Token.{Token}
 use Rattle.hb_second.specs.declared.token.Placed.{Placed}
 use Rattle.hb_second.specs.declared.source.Source.{Source}
 use Rattle.hb_second.specs.declared.stage.Stage.TheVariants.{End}
@@ -12,7 +11,7 @@ use Rattle.hb_second.specs.Bytes.{first_place, place_after}
 use Rattle.hb_second.specs.Scan.{tokens_of}
 use Rattle.hb_second.specs.Tokens.{Tokens}
 use Rattle.hb_second.specs.Form.{Form}
-use Rattle.hb_second.specs.Spelling.{texts, Spells, CanGoOn, FirstWrong, at_token, at_end, IsRead, IsWrong}
+use Rattle.hb_second.specs.Spelling.{texts, Spells, at_token, at_end, IsRead, IsWrong}
 use Rattle.hb_second.specs.Moves.{start, steps, step, given, Stopped}
 use Rattle.hb_second.proofs.TokensLaws.{tokens_are, tokens_unique}
 use Rattle.hb_second.proofs.Reading.{steps_on, steps_last, form_of, can_go_on, cannot_go_on, no_form, one_form}
@@ -66,7 +65,10 @@ taken ts i x r n fits lt ex h e f =
 -- or is not
 pub not_taken : (ts : List Placed) (i : ℕ) (x : Placed) (r n : Reader) (fits : Bool) → i < length ts → x ≡ get_or ts i x → steps start (texts (take i ts)) ≡ Some r → step r x.token ≡ given fits n → fits ≡ false → Stopped ts x.place
 not_taken ts i x r n fits lt ex h e f = record {
-  before = take i ts; after = drop (suc i) ts; t = x; reader = r;
+  before = take i ts;
+  after = drop (suc i) ts;
+  t = x;
+  reader = r;
   tokens = sym (take-append-drop i ts) ∙ ap (λ us. take i ts ++ us) (drop-cons ts i x lt ∙ ap (λ y. y ∷ drop (suc i) ts) (sym ex));
   reads = h;
   stops = e ∙ ap (λ b. given b n) f;

@@ -1,7 +1,6 @@
 -- The tokens that a scan finds are the ones that the bytes spell, and no others are.
 use Rattle.std.proofs.Common.{◌≡◌, ℕ, Bool, true, false, List, [], ◌∷◌, ◌++◌, Option, Some, None, refl, sym, ap, subst, ◌⊎◌, inl, inr, ⊎_elim, ◌∙◌, append_assoc}
 use Rattle.std.specs.Prelude.{is_some, if◌then◌else◌}
-use Rattle.std.specs.List.{AllByRecursion}
 use Rattle.hb_base.specs.declared.place.Place.{Place}
 use Rattle.hb_second.specs.declared.token.Kind.{Kind}
 use Rattle.hb_second.specs.declared.token.Kind.TheVariants.{Blank, Letter, Symbol, Colon, ColonPair, Other}
@@ -11,7 +10,7 @@ use Rattle.hb_second.specs.declared.token.Placed.{Placed}
 use Rattle.hb_second.specs.Bytes.{kind_of, next_place, place_after, first_place}
 use Rattle.hb_second.specs.Tokens.{Tokens, IsToken, AllOf, extended, goes_on, no_bytes, blank, token, word, symbols, colon, colons, other}
 use Rattle.hb_second.specs.Scan.{scan, tokens_of, begun, placed}
-use Rattle.hb_second.proofs.ScanSteps.{scan_longer, scan_ends, scan_end}
+use Rattle.hb_second.proofs.ScanSteps.{scan_longer, scan_ends}
 
 -- a token that is begun is what it is
 begun_is : (kind : Kind) (w : List ℕ) (t : Token) (place : Place) → IsToken kind w t → begun kind w place ≡ placed t place

@@ -1,7 +1,7 @@
 -- What a source of the second form means, step by step. The first step calls `main`, the second runs its `do`. Then
 -- each run of a read or a write is a step, and so is an operator before its statement's run; after the last
 -- statement comes the end.
-use Rattle.std.specs.Prelude.{ℕ, zero, suc, ◌+◌, ◌-◌, ◌%◌, List, [], ◌∷◌, ◌++◌, slice_index, Option, Some, None, bit_and, bit_or, bit_xor}
+use Rattle.std.specs.Prelude.{ℕ, zero, suc, ◌+◌, ◌-◌, ◌%◌, List, [], ◌∷◌, ◌++◌, slice_index, Some, None, bit_and, bit_or, bit_xor}
 use Rattle.hb_base.specs.declared.script.ScriptLine.{ScriptLine}
 use Rattle.hb_base.specs.declared.step.Step.{Step}
 use Rattle.hb_base.specs.declared.step.Step.TheVariants.{Read as ShowsRead, Wrote}
@@ -12,7 +12,6 @@ use Rattle.hb_second.specs.declared.source.Atom.{Atom}
 use Rattle.hb_second.specs.declared.source.Atom.TheVariants.{Literal, Variable}
 use Rattle.hb_second.specs.declared.source.Operator.{Operator}
 use Rattle.hb_second.specs.declared.source.Operator.TheVariants.{Add, Sub, And, Or, Xor}
-use Rattle.hb_second.specs.declared.source.Argument.{Argument}
 use Rattle.hb_second.specs.declared.source.Argument.TheVariants.{Atom as OneAtom, Operation}
 use Rattle.hb_second.specs.declared.source.Statement.{Statement}
 use Rattle.hb_second.specs.declared.source.Statement.TheVariants.{Read, Write}
@@ -45,8 +44,8 @@ goes zero ss values lines = nothing_yet
 goes (suc n) [] values lines = ended Done
 goes (suc n) (Read port ∷ ss) values lines =
     elim (first_value port lines) [
-      None ↦ ended (InputEnd port)
-    | Some v ↦ after_event (ShowsRead port v) (goes n ss (values ++ v ∷ []) (without_first port lines))
+      | None ↦ ended (InputEnd port)
+      | Some v ↦ after_event (ShowsRead port v) (goes n ss (values ++ v ∷ []) (without_first port lines))
     ]
 goes (suc n) (Write port (OneAtom a) ∷ ss) values lines = after_event (Wrote port (value values a)) (goes n ss values lines)
 goes (suc n) (Write port (Operation a operator b) ∷ ss) values lines =

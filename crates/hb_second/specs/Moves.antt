@@ -1,5 +1,5 @@
 -- What a reader of tokens does with each: which token may come, and what it is then known to have read.
-use Rattle.std.specs.Prelude.{◌≡◌, ℕ, ◌^◌, Bool, true, false, ◌&&◌, ◌||◌, nat_lt, nat_le, if◌then◌else◌, List, [], ◌∷◌, ◌++◌, length, codes, Option, Some, None, ◌==◌, option_and_then}
+use Rattle.std.specs.Prelude.{◌≡◌, ℕ, Bool, true, false, ◌&&◌, ◌||◌, nat_lt, nat_le, if◌then◌else◌, List, [], ◌∷◌, ◌++◌, length, codes, Option, Some, None, ◌==◌, option_and_then}
 use Rattle.std.specs.Str.{bytes_eq}
 use Rattle.hb_base.specs.declared.port.Port.{Port}
 use Rattle.hb_base.specs.declared.port.Dir.{Dir}
@@ -11,7 +11,6 @@ use Rattle.hb_second.specs.declared.token.Token.TheVariants.{Word, Symbols, Colo
 use Rattle.hb_second.specs.declared.source.Atom.{Atom}
 use Rattle.hb_second.specs.declared.source.Argument.{Argument}
 use Rattle.hb_second.specs.declared.source.Argument.TheVariants.{Atom as OneAtom, Operation}
-use Rattle.hb_second.specs.declared.source.Statement.{Statement}
 use Rattle.hb_second.specs.declared.source.Statement.TheVariants.{Read, Write}
 use Rattle.hb_second.specs.declared.stage.Stage.{Stage}
 use Rattle.hb_second.specs.declared.stage.Stage.TheVariants.{Fixed as At, Next, Name, Direction, Address, PortEnd, Line, From, To, Value, First, Between, Second, Closing, Written, End}

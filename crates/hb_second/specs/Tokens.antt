@@ -1,6 +1,6 @@
 -- The tokens that bytes spell, each with the place of its first byte. A token is taken as long as it goes on;
 -- blanks are no tokens.
-use Rattle.std.specs.Prelude.{◌≡◌, ℕ, Bool, true, false, List, [], ◌∷◌, ◌++◌, Option, Some, None, is_some}
+use Rattle.std.specs.Prelude.{◌≡◌, ℕ, Bool, false, List, [], ◌∷◌, ◌++◌, Option, Some, None, is_some}
 use Rattle.std.specs.List.{AllByRecursion}
 use Rattle.hb_base.specs.declared.place.Place.{Place}
 use Rattle.hb_second.specs.declared.token.Kind.{Kind}

@@ -9,7 +9,9 @@ mod read;
 mod reader;
 mod source;
 mod stage;
+#[cfg(test)]
+mod tests;
 mod token;
 
-pub use read::{read_source, ReadError};
+pub use read::{ReadError, read_source};
 pub use source::{Argument, Atom, Operator, Source, Statement};

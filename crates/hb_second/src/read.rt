@@ -69,7 +69,9 @@ fn read_bytes(alloc: Global, bytes: &[u8]) -> Result<Result<Source, Place>, Memo
                 return Ok(Err(found.end));
             }
             let Reader {
-                ports, statements, ..
+                ports,
+                statements,
+                ..
             } = reader;
             Ok(Ok(Source { ports, statements }))
         }

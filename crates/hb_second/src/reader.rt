@@ -8,7 +8,6 @@ ghost use Rattle.hb_second.specs.Literals.{is_hex, digit_value, is_literal, byte
 ghost use Rattle.hb_second.specs.Names.{taken_words, is_the_word, is_short_lower, is_free_name, is_new_name, same_way, has_port, find_port, atom_of, operator_named, operator_of};
 ghost use Rattle.hb_second.specs.Form.{word, mark, is_new_address};
 ghost use Rattle.hb_second.specs.Moves.{expected, same_token, word_of, may_be_in, is_port_address, may_read, named_port, given, at_stage, put_write, move_at, step};
-
 ghost use Rattle.hb_second.specs.declared.token.Token.TheVariants.{Word, Symbols, Colons, Mark};
 
 use crate::lexer::tokens;

@@ -1,4 +1,4 @@
-use Rattle.std.proofs.Common.{refl, sym, ap, ◌∙◌, ◌≤◌, arith}
+use Rattle.std.proofs.Common.{refl, sym, ◌∙◌, arith}
 use Rattle.std.proofs.lemmas.List.{at_drop_all}
 use Rattle.hb_second.specs.Scan.{all_found, tokens_of, scan}
 use Rattle.hb_second.proofs.lexer.tokens.Goals as goal

@@ -1,4 +1,4 @@
-use Rattle.std.proofs.Common.{◌≡◌, Bool, true, false, sym, ap, subst, ◌∙◌}
+use Rattle.std.proofs.Common.{◌≡◌, Bool, false, ◌∙◌}
 use Rattle.std.specs.Prelude.{IsTrue}
 use Rattle.hb_second.specs.Moves.{Stopped}
 use Rattle.hb_second.proofs.SpellingLaws.{read_is, wrong_token, wrong_end, ok_of, err_of, AllTaken}

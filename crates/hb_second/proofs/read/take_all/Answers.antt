@@ -1,7 +1,6 @@
-use Rattle.std.proofs.Common.{◌≡◌, refl, sym, ap}
+use Rattle.std.proofs.Common.{sym, ap}
 use Rattle.std.specs.Prelude.{Some}
-use Rattle.hb_second.specs.Spelling.{texts}
-use Rattle.hb_second.specs.Moves.{start, steps}
+use Rattle.hb_second.specs.Moves.{steps}
 use Rattle.hb_second.proofs.Reading.{sizes}
 use Rattle.hb_second.proofs.SpellingLaws.{taken, not_taken}
 use Rattle.hb_second.proofs.read.take_all.Goals as goal

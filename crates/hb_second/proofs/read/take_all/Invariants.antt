@@ -1,4 +1,4 @@
-use Rattle.std.proofs.Common.{◌≡◌, ◌≤◌, take, length, Some}
+use Rattle.std.proofs.Common.{◌≡◌, take, Some}
 use Rattle.hb_second.specs.Spelling.{texts}
 use Rattle.hb_second.specs.Moves.{start, steps}
 use Rattle.hb_second.proofs.read.take_all.Given as goal

@@ -1,8 +1,8 @@
-use Rattle.std.proofs.Common.{◌≡◌, ℕ, Some, None, Option, position, ◌&&◌, rules, tests}
+use Rattle.std.proofs.Common.{Some, None, ◌&&◌, rules, tests}
 use Rattle.std.specs.Str.{bytes_eq}
 use Rattle.std.proofs.lemmas.Iterator.Search.{position_from_yields_List}
 use Rattle.std.proofs.lemmas.Iterator.{YieldsList-from_slice}
-use Rattle.hb_second.specs.Names.{same_way, find_port}
+use Rattle.hb_second.specs.Names.{same_way}
 use Rattle.hb_second.proofs.reader.find_port.Goals as goal
 
 pub returns-in-Some : goal.returns-in-Some

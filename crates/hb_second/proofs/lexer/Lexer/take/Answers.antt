@@ -1,5 +1,5 @@
 -- A byte goes on with the token that is begun, or ends it.
-use Rattle.std.proofs.Common.{◌≡◌, Option, None, sym, ap, ◌∙◌}
+use Rattle.std.proofs.Common.{◌∙◌}
 use Rattle.hb_second.specs.Scan.{all_found}
 use Rattle.hb_second.proofs.ScanSteps.{take_longer, take_ends}
 use Rattle.hb_second.proofs.lexer.Lexer.take.Goals as goal

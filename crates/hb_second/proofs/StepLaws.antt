@@ -1,19 +1,16 @@
 -- What the tests on tokens mean, and steps one after another.
-use Rattle.std.proofs.Common.{◌≡◌, ℕ, Bool, true, false, cond, eqb, List, [], ◌∷◌, ◌++◌, Option, Some, None, refl, sym, ap, subst, ◌∙◌, arith}
-use Rattle.std.specs.Prelude.{option_and_then, ◌==◌, ◌&&◌}
+use Rattle.std.proofs.Common.{◌≡◌, ℕ, Bool, true, false, List, [], ◌∷◌, ◌++◌, Option, Some, None, refl, ap}
+use Rattle.std.specs.Prelude.{option_and_then, ◌&&◌}
 use Rattle.std.specs.Str.{bytes_eq}
 use Rattle.std.proofs.lemmas.Bool.Decides.{Decides-eqb}
 use Rattle.std.proofs.lemmas.Slice.Eq.{bytes_eq-Decides}
-use Rattle.hb_base.specs.declared.port.Dir.{Dir}
-use Rattle.hb_base.specs.declared.port.Dir.TheVariants.{In, Out}
 use Rattle.hb_base.specs.declared.port.Port.{Port}
 use Rattle.hb_second.specs.declared.token.Token.{Token}
 use Rattle.hb_second.specs.declared.token.Token.TheVariants.{Word, Symbols, Colons, Mark}
 use Rattle.hb_second.specs.declared.source.Statement.{Statement}
 use Rattle.hb_second.specs.declared.stage.Stage.{Stage}
 use Rattle.hb_second.specs.declared.reader.Reader.{Reader}
-use Rattle.hb_second.specs.Names.{find_port}
-use Rattle.hb_second.specs.Moves.{same_token, given, word_of, named_port, step, steps}
+use Rattle.hb_second.specs.Moves.{same_token, given, word_of, step, steps}
 
 abbrev pub mk : Stage → List ℕ → List Port → List (List ℕ) → List Statement → Reader
 mk stage name ports variables statements = record { stage = stage; name = name; ports = ports; variables = variables; statements = statements }
