@@ -1,0 +1,6 @@
+//! From a source of the second form to its image: lowering, selection and assembling in a row.
+#![tactic(auto)]
+
+mod compile;
+
+pub use compile::compile;
