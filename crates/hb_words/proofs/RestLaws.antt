@@ -1,15 +1,15 @@
 -- What words say, one word after another.
-use Rattle.std.proofs.Common.{◌≡◌, ℕ, ◌≤◌, length, List, [], ◌∷◌, ◌++◌, drop, Option, Some, None, refl, sym, ap, subst, ◌∙◌, append_assoc}
+use Rattle.std.proofs.Common.{◌≡◌, ℕ, List, [], ◌∷◌, ◌++◌, drop, Option, Some, None, refl, sym, ap, subst, ◌∙◌, append_assoc}
 use Rattle.hb_words.specs.declared.words.Kind.{Kind}
 use Rattle.hb_words.specs.declared.words.Kind.TheVariants.{Name, StepsWord, StepsEquals, Dashes, Unknown}
 use Rattle.hb_words.specs.declared.words.Rest.{Rest}
-use Rattle.hb_words.specs.Words.{kind_of, number_of, nothing_said, both_steps, joined_steps, joined, with_name, with_steps, said, rest_of}
+use Rattle.hb_words.specs.Words.{kind_of, number_of, nothing_said, both_steps, joined_steps, joined, with_name, with_steps, said, numbered, rest_of}
 
 append_none : (names : List (List ℕ)) → names ++ [] ≡ names
 append_none [] = refl
 append_none (n ∷ names) = ap (λ ns. n ∷ ns) (append_none names)
 
-rest : Option ℕ → List (List ℕ) → Rest
+abbrev rest : Option ℕ → List (List ℕ) → Rest
 rest steps names = record { steps = steps; names = names }
 
 -- ---- nothing said before, or after
@@ -76,10 +76,15 @@ pub rest_unknown : (w : List ℕ) (ws : List (List ℕ)) → kind_of w ≡ Unkno
 rest_unknown w [] e = ap (λ k. said k w [] (Some nothing_said) None) e
 rest_unknown w (x ∷ ws) e = ap (λ k. said k w (x ∷ ws) (rest_of (x ∷ ws)) (with_steps (number_of x) (rest_of ws))) e
 
+pub rest_numbered : (w : List ℕ) (ws : List (List ℕ)) → kind_of w ≡ StepsWord → rest_of (w ∷ ws) ≡ numbered ws
+rest_numbered w [] e = rest_steps_none w e
+rest_numbered w (x ∷ ws) e = rest_steps w x ws e
+
 -- ---- a word taken off the front
 
--- after so many words, what was said and what is left say all
-pub record Took (old new : Rest) (words : List (List ℕ)) (count : ℕ) : Type 0 where
-  pub some : 1 ≤ count
-  pub within : count ≤ length words
-  pub same : joined new (rest_of (drop count words)) ≡ joined old (rest_of words)
+pub read_name : (old new : Rest) (w : List ℕ) (ws : List (List ℕ)) → kind_of w ≡ Name → new.names ≡ old.names ++ w ∷ [] → new.steps ≡ old.steps → joined new (rest_of ws) ≡ joined old (rest_of (w ∷ ws))
+read_name old new w ws e names steps =
+    ap (λ (ns : List (List ℕ)). joined (rest new.steps ns) (rest_of ws)) names
+    ∙ ap (λ (s : Option ℕ). joined (rest s (old.names ++ w ∷ [])) (rest_of ws)) steps
+    ∙ sym (joined_name old.steps old.names (w ∷ []) (rest_of ws))
+    ∙ sym (ap (λ (o : Option Rest). joined old o) (rest_name w ws e))
