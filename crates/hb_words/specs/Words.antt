@@ -86,7 +86,7 @@ abbrev pub numbered : List (List ℕ) → Option Rest
 numbered [] = None
 numbered (next ∷ words) = with_steps (number_of next) (rest_of words)
 
--- of these words no more than these are left, and the new rest and what is left say what the old rest and this say
+-- no more words are left than there were, and what was said before with this is what is said now with the words left
 pub record IsRead (old new : Rest) (what : Option Rest) (words left : List (List ℕ)) : Type 0 where
   pub fewer : length left ≤ length words
   pub same : joined new (rest_of left) ≡ joined old what

@@ -163,8 +163,8 @@ impl Rest {
         }
     }
 
+    /// Reads this word, with the others after it. Answers the words left to read, or nothing where the words say nothing.
     #[tactic(auto, using(crate::proofs::RestLaws::read_name, crate::proofs::RestLaws::rest_numbered))]
-    /// Reads this word, before the others. Answers the words left, or nothing where no words may be so.
     fn take<'a>(
         &mut self,
         alloc: Global,
@@ -278,8 +278,8 @@ fn has_names(command: &Command) -> bool
 }
 
 /// The command that these words are: `run FILE SCRIPT IMAGE` or `exec IMAGE SCRIPT`, with `--steps N` or `--steps=N` at
-/// most once among the names (N below 2^64, 100,000,000 where it is not said). After `--` each word is a name. Nothing
-/// where the words are no command, or a name is not UTF-8.
+/// most once, anywhere after the first word (N is below 2^64, and 100,000,000 where it is not said). After `--` each
+/// word is a name. Nothing where the words are no command, or a name is not UTF-8.
 ///
 /// # Errors
 ///
