@@ -1,5 +1,5 @@
 -- How the words of the command line are read.
-use Rattle.std.specs.Prelude.{◌≡◌, ℕ, ◌+◌, ◌-◌, ◌*◌, ◌^◌, Bool, true, false, ◌&&◌, ◌==◌, nat_lt, nat_le, if◌then◌else◌, List, [], ◌∷◌, ◌++◌, length, drop, codes, Option, Some, None, unwrap_or, option_and_then}
+use Rattle.std.specs.Prelude.{◌≡◌, ℕ, ◌+◌, ◌≤◌, ◌-◌, ◌*◌, ◌^◌, Bool, false, ◌&&◌, ◌==◌, nat_lt, if◌then◌else◌, List, [], ◌∷◌, ◌++◌, length, drop, codes, Option, Some, None, unwrap_or, option_and_then}
 use Rattle.std.specs.List.{starts_with}
 use Rattle.std.specs.Prelude.{nat_eq}
 use Rattle.std.specs.Str.{IsUtf8, bytes_eq}
@@ -80,6 +80,16 @@ abbrev pub rest_of : List (List ℕ) → Option Rest
 rest_of [] = Some nothing_said
 rest_of (word ∷ []) = said (kind_of word) word [] (Some nothing_said) None
 rest_of (word ∷ next ∷ words) = said (kind_of word) word (next ∷ words) (rest_of (next ∷ words)) (with_steps (number_of next) (rest_of words))
+
+-- what words say after `--steps`
+abbrev pub numbered : List (List ℕ) → Option Rest
+numbered [] = None
+numbered (next ∷ words) = with_steps (number_of next) (rest_of words)
+
+-- no more words are left than there were, and what was said before with this is what is said now with the words left
+pub record IsRead (old new : Rest) (what : Option Rest) (words left : List (List ℕ)) : Type 0 where
+  pub fewer : length left ≤ length words
+  pub same : joined new (rest_of left) ≡ joined old what
 
 -- ---- commands
 
