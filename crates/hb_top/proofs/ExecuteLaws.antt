@@ -21,7 +21,7 @@ use Rattle.hb_mach.proofs.RunLaws.{events-append}
 use Rattle.hb_mach.proofs.RunningLaws.{lines_shown-suc}
 use Rattle.hb_top.specs.Texts.{text_from, stop_after, status_of}
 use Rattle.hb_top.specs.World.{printed}
-use Rattle.hb_top.specs.Executing.{Tells, whole, cut, Puts, PutsFront}
+use Rattle.hb_top.specs.Executing.{TellsRun, whole_run, cut_run, Puts, PutsFront}
 
 -- the text is the lines of the run and then its end
 text_is : (s : State) (limit : ℕ) → text_from s limit ≡ lines_shown s limit ++ end_of s.ports (stop_after s limit) (after table limit s).done
@@ -46,25 +46,26 @@ end_is limit old new stop before now f f' r ports done ep ed =
 
 -- all lines were put, and then the end line
 pub told_whole : (limit : ℕ) (old new : State) (stop : Stop) (before now last : Option (List ℕ)) (f f' f'' status : ℕ) (ports : List Port) (done : ℕ) (text : List ℕ) → RanToLimit limit old new stop before now f f' → ports ≡ new.ports → done ≡ new.done
-    → text ≡ end_of ports stop done → last ≡ appended now text → f'' ≡ f' → status ≡ status_of stop → Tells (text_from old limit) (status_of (stop_after old limit)) (printed before f) (printed last f'') status
+    → text ≡ end_of ports stop done → last ≡ appended now text → f'' ≡ f' → status ≡ status_of stop → TellsRun old limit (printed before f) (printed last f'') status
 told_whole limit old new stop before now last f f' f'' status ports done text r ep ed et el ef es =
-    whole
+    whole_run
     (record {
       taken =
           el ∙ ap (λ t. appended t text) r.ran.lines ∙ appended-appended before (lines_shown old limit) text
           ∙ ap (λ t. appended before (lines_shown old limit ++ t)) (et ∙ end_is limit old new stop before now f f' r ports done ep ed) ∙ ap (appended before) (sym (text_is old limit));
       no_fault = ef ∙ r.ran.faults;
     })
+    (λ e. r.no_sink (stop_is limit old new stop before now f f' r ∙ e))
     (es ∙ ap status_of (stop_is limit old new stop before now f f' r))
 
 -- all lines were put, and a front of the end line
 pub told_end_cut : (limit : ℕ) (old new : State) (stop : Stop) (before now last : Option (List ℕ)) (f f' f'' : ℕ) (ports : List Port) (done : ℕ) (text : List ℕ) → RanToLimit limit old new stop before now f f' → ports ≡ new.ports → done ≡ new.done
-    → text ≡ end_of ports stop done → TookFront now text last → Rose f' f'' → Tells (text_from old limit) (status_of (stop_after old limit)) (printed before f) (printed last f'') 5
+    → text ≡ end_of ports stop done → TookFront now text last → Rose f' f'' → TellsRun old limit (printed before f) (printed last f'') 5
 told_end_cut limit old new stop before now last f f' f'' ports done text r ep ed et front rose =
     let end = end_of old.ports (stop_after old limit) (after table limit old).done in
     let same : text ≡ end = et ∙ end_is limit old new stop before now f f' r ports done ep ed in
     let moved : TookFront (appended before (lines_shown old limit)) end last = subst (λ t. TookFront t end last) r.ran.lines (subst (λ t. TookFront now t last) same front) in
-    cut
+    cut_run
     (record {
       front = subst (λ t. TookFront before t last) (sym (text_is old limit)) (took_after before (lines_shown old limit) end last moved);
       fault = subst (λ n. Rose n f'') r.ran.faults rose;
@@ -91,12 +92,12 @@ text_begins s steps limit below =
     )
 
 -- a line of the run could not be put
-pub told_line_cut : (limit : ℕ) (old new : State) (stop : Stop) (before now : Option (List ℕ)) (f f' : ℕ) → RanToFault limit old new stop before now f f' → Tells (text_from old limit) (status_of (stop_after old limit)) (printed before f) (printed now f') 5
+pub told_line_cut : (limit : ℕ) (old new : State) (stop : Stop) (before now : Option (List ℕ)) (f f' : ℕ) → RanToFault limit old new stop before now f f' → TellsRun old limit (printed before f) (printed now f') 5
 told_line_cut limit old new stop before now f f' r =
     let line = line_of old.ports (table (after table r.steps old)).1 in
     let lines = lines_shown old r.steps in
     let begins = text_begins old r.steps limit r.within in
-    cut
+    cut_run
     (record {
       front = subst (λ t. TookFront before t now) (sym begins.1) (took_of_more before (lines ++ line) begins.0 now (took_after before lines line now r.front));
       fault = r.fault;

@@ -1,2 +1,3 @@
-pub mod Composition
+pub mod PreparingLaws
 pub mod ExecuteLaws
+pub mod Composition

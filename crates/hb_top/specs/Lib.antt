@@ -1,7 +1,7 @@
-pub mod Words
+pub mod World
 pub mod Texts
 pub mod Sources
-pub mod World
 pub mod Preparing
+pub mod Steps
 pub mod Executing
 pub mod Answers

@@ -1,7 +1,10 @@
 -- The lines that are put, each ended by a line feed.
-use Rattle.std.specs.Prelude.{ℕ, zero, suc, List, [], ◌∷◌, ◌++◌, codes}
+use Rattle.std.specs.Prelude.{ℕ, zero, suc, List, [], ◌∷◌, ◌++◌, codes, decimal}
 use Rattle.hb_image.specs.declared.image.Image.{Image}
+use Rattle.hb_image.specs.declared.fault.Field.{Field}
+use Rattle.hb_image.specs.declared.fault.Field.TheVariants.{Magic, Version, Ports, Areas, Stack as StackField, Code, Kind, Width, Length, Address, Name, Words as WordsField, Tail}
 use Rattle.hb_base.specs.declared.script.ScriptLine.{ScriptLine}
+use Rattle.hb_base.specs.declared.place.Place.{Place}
 use Rattle.hb_base.specs.declared.step.Stop.{Stop}
 use Rattle.hb_base.specs.declared.step.Stop.TheVariants.{Done, Halt, Stack, InputEnd, Steps, Illegal, Misaligned, Unmapped, Break, Sink}
 use Rattle.hb_runs.specs.Stepping.{after}
@@ -10,27 +13,63 @@ use Rattle.hb_script.specs.Ends.{end_of}
 use Rattle.hb_mach.specs.State.{State, start}
 use Rattle.hb_mach.specs.Table.{table}
 use Rattle.hb_mach.specs.Run.{shown, stop_of}
-use Rattle.hb_top.specs.declared.refusal.Refusal.{Refusal}
-use Rattle.hb_top.specs.declared.refusal.Refusal.TheVariants.{SourceLong, Syntax}
+use Rattle.hb_top.specs.declared.failure.Refusal.{Refusal}
+use Rattle.hb_top.specs.declared.failure.Refusal.TheVariants.{SourceLong, Syntax}
+use Rattle.hb_top.specs.declared.failure.NoImage.{NoImage}
+use Rattle.hb_top.specs.declared.failure.NoImage.TheVariants.{Short, Bad}
+use Rattle.hb_top.specs.declared.failure.Failure.{Failure}
+use Rattle.hb_top.specs.declared.failure.Failure.TheVariants.{Words, Refused, Script, Image as ImageRefused, Read, Write, Memory}
 
-abbrev pub line : List ℕ → List ℕ
-line text = text ++ 10 ∷ []
+-- ---- failures
 
-abbrev pub words_line : List ℕ
-words_line = line (codes "words refused")
+-- the line and the column
+abbrev pub place_text : Place → List ℕ
+place_text place = decimal place.line ++ 58 ∷ decimal place.col
 
 abbrev pub refusal_line : Refusal → List ℕ
-refusal_line SourceLong = line (codes "refused E30 1:1 -")
-refusal_line Syntax = line (codes "refused E04 1:1 -")
+refusal_line SourceLong = codes "refused E30 1:1 -" ++ 10 ∷ []
+refusal_line (Syntax place) = codes "refused E04 " ++ place_text place ++ codes " -" ++ 10 ∷ []
 
-abbrev pub script_line : List ℕ
-script_line = line (codes "script refused 1")
+-- the name of a field of an image
+abbrev pub field_name : Field → List ℕ
+field_name Magic = codes "magic"
+field_name Version = codes "version"
+field_name Ports = codes "ports"
+field_name Areas = codes "areas"
+field_name StackField = codes "stack"
+field_name Code = codes "code"
+field_name Kind = codes "kind"
+field_name Width = codes "width"
+field_name Length = codes "length"
+field_name Address = codes "address"
+field_name Name = codes "name"
+field_name WordsField = codes "words"
+field_name Tail = codes "tail"
 
-abbrev pub read_line : List ℕ
-read_line = line (codes "read fault")
+abbrev pub no_image_name : NoImage → List ℕ
+no_image_name Short = codes "short"
+no_image_name (Bad field) = field_name field
 
-abbrev pub write_line : List ℕ
-write_line = line (codes "write fault")
+-- the line of a failure; for want of memory there is none
+abbrev pub line_of : Failure → List ℕ
+line_of Words = codes "words refused" ++ 10 ∷ []
+line_of (Refused refusal) = refusal_line refusal
+line_of (Script number) = codes "script refused " ++ decimal number ++ 10 ∷ []
+line_of (ImageRefused fault) = codes "image refused " ++ no_image_name fault ++ 10 ∷ []
+line_of Read = codes "read fault" ++ 10 ∷ []
+line_of Write = codes "write fault" ++ 10 ∷ []
+line_of Memory = []
+
+abbrev pub status_of_failure : Failure → ℕ
+status_of_failure Words = 2
+status_of_failure (Refused refusal) = 1
+status_of_failure (Script number) = 3
+status_of_failure (ImageRefused fault) = 10
+status_of_failure Read = 4
+status_of_failure Write = 5
+status_of_failure Memory = 12
+
+-- ---- runs
 
 -- how the machine stands after so many steps from a state
 abbrev pub stop_after : State → ℕ → Stop
@@ -43,10 +82,6 @@ text_from state steps =
 
 unfoldable pub text_of : Image → List ScriptLine → ℕ → List ℕ
 text_of image inputs steps = text_from (start image inputs) steps
-
--- the steps that a run may do
-abbrev pub standard_steps : ℕ
-standard_steps = 100000000
 
 -- what a program ends with when its run ends so
 abbrev pub status_of : Stop → ℕ

@@ -11,15 +11,16 @@ use std::alloc::Global;
 /// Does what the words say, and answers the status with which the program ends. The words leave the program's own
 /// name out.
 ///
-/// `run FILE SCRIPT IMAGE` compiles the source in FILE, writes the image to IMAGE, runs that very image, and puts a
-/// line for each port event and then the end. `Answers` says of each status what was read, written and put.
+/// `run FILE SCRIPT IMAGE` compiles the source in FILE, writes the image to IMAGE, runs that very image on the inputs
+/// in SCRIPT, and puts a line for each port event and then the end. `exec IMAGE SCRIPT` runs the image in IMAGE so.
+/// `--steps N` says how many instructions a run may do. `Answers` says of each status what was read, written and put.
 pub fn habit<F: Shelf, O: Sink>(alloc: Global, words: &List<Text>, shelf: &mut F, out: &mut O) -> u8
     ensures { Answers words.now result
         (world (shelved (F.files shelf.old) (F.read_faults shelf.old) (F.write_faults shelf.old)) (printed (O.taken out.old) (O.faults out.old)))
         (world (shelved (F.files shelf.new) (F.read_faults shelf.new) (F.write_faults shelf.new)) (printed (O.taken out.new) (O.faults out.new))) }
 {
     match prepare(alloc, words, shelf) {
-        Ok(machine) => execute(machine, out),
+        Ok(prepared) => execute(prepared.machine, prepared.steps, out),
         Err(failure) => report(failure, out),
     }
 }

@@ -1,17 +1,14 @@
 ghost use Rattle.std.specs.Prelude.{◌≡◌};
-ghost use Rattle.hb_top.specs.Executing.{Tells};
+ghost use Rattle.hb_top.specs.Executing.{TellsRun};
 ghost use Rattle.hb_top.specs.Texts;
-ghost use Rattle.hb_top.specs.Texts.{text_from, standard_steps, stop_after};
 ghost use Rattle.hb_top.specs.World.{printed};
 
 use crate::report::WRITE_FAULT;
 use hb_base::Stop;
 use hb_io::{Failed, Sink};
 use hb_mach::Machine;
+use hb_script::buffer::ROOM;
 use hb_script::end_text;
-
-/// The steps that a run may do.
-const STANDARD_STEPS: u64 = 100_000_000;
 
 /// The status of a run that ended so.
 fn status_of(stop: Stop) -> u8
@@ -28,15 +25,15 @@ fn status_of(stop: Stop) -> u8
     }
 }
 
-/// Runs the machine to its end, and puts a line for each port event and then the end.
-pub fn execute<O: Sink>(mut machine: Machine, out: &mut O) -> u8
-    ensures { Tells (text_from machine standard_steps) (Texts.status_of (stop_after machine standard_steps)) (printed (O.taken out.old) (O.faults out.old)) (printed (O.taken out.new) (O.faults out.new)) result }
+/// Runs the machine for so many steps or to its end, and puts a line for each port event and then the end.
+pub fn execute<O: Sink>(mut machine: Machine, steps: u64, out: &mut O) -> u8
+    ensures { TellsRun machine steps (printed (O.taken out.old) (O.faults out.old)) (printed (O.taken out.new) (O.faults out.new)) result }
 {
-    let stop = machine.run(STANDARD_STEPS, out);
+    let stop = machine.run(steps, out);
     if let Stop::Sink = stop {
         return WRITE_FAULT;
     }
-    let mut buffer = [0; 128];
+    let mut buffer = [0; ROOM];
     let length = end_text(stop, machine.done(), machine.ports(), &mut buffer);
     match out.put(&buffer[..length]) {
         Ok(()) => status_of(stop),

@@ -4,9 +4,10 @@
 mod command;
 mod execute;
 mod failure;
+mod finding;
+mod judging;
 mod prepare;
-mod refusal;
 mod report;
-mod words;
+mod starting;
 
 pub use command::habit;

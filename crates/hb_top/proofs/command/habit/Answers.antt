@@ -1,5 +1,5 @@
 use Rattle.hb_top.specs.World.{world, shelved, printed}
-use Rattle.hb_top.proofs.Composition.{ran, failed}
+use Rattle.hb_top.proofs.Composition.{after_run, failed}
 use Rattle.hb_top.proofs.command.habit.Goals as goal
 
 pub returns-in-Ok : goal.returns-in-Ok
@@ -7,7 +7,7 @@ returns-in-Ok g c =
     let shelf = g.F.Shelf in let sink = g.O.Sink in
     let old = world (shelved (shelf.files c.args.shelf.now) (shelf.read_faults c.args.shelf.now) (shelf.write_faults c.args.shelf.now)) (printed (sink.taken c.args.out.now) (sink.faults c.args.out.now)) in
     let new = world (shelved (shelf.files c.prepare.new.shelf) (shelf.read_faults c.prepare.new.shelf) (shelf.write_faults c.prepare.new.shelf)) (printed (sink.taken c.execute.new.out) (sink.faults c.execute.new.out)) in
-    ran c.args.words.now old new c.in-Ok.machine c.execute.result c.in-Ok.ensures c.execute.ensures
+    after_run c.args.words.now old new c.in-Ok.prepared.machine c.in-Ok.prepared.steps c.execute.result c.in-Ok.ensures c.execute.ensures
 
 pub returns-in-Err : goal.returns-in-Err
 returns-in-Err g c =
