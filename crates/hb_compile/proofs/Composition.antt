@@ -45,6 +45,28 @@ pub record Made (source : Source) (flat : Flat) (asm : Asm) (image : Image) : Ty
   pub stack : image.stack ≡ flat.stack
   pub code : image.code ≡ words_of asm.parts
 
+pub made_of :
+    (source : Source) (flat : Flat) (asm : Asm) (image : Image)
+    → IsFlat flat source.ports
+    → All (λ (block : FlatBlock). length block.steps ≤ 2000) flat.blocks
+    → flat.stack ≡ 1048576
+    → asm.parts ≡ parts_of flat
+    → image.ports ≡ source.ports
+    → image.areas ≡ 0
+    → image.stack ≡ flat.stack
+    → image.code ≡ words_of asm.parts
+    → Made source flat asm image
+made_of source flat asm image fits few size parts ports areas stack code = record {
+  fits = fits;
+  few = few;
+  size = size;
+  parts = parts;
+  ports = ports;
+  areas = areas;
+  stack = stack;
+  code = code;
+}
+
 pub image_of : (source : Source) (flat : Flat) (asm : Asm) (image : Image) → Made source flat asm image → IsImage image
 image_of source flat asm image made =
     let words : length image.code ≡ length (words_of (parts_of flat)) = ap length (made.code ∙ ap words_of made.parts) in

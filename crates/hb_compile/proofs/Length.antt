@@ -1,9 +1,11 @@
 -- How many words the code of a flat program of few steps has.
 use Rattle.std.proofs.Common.{◌≡◌, ℕ, ◌+◌, ◌*◌, ◌≤◌, List, [], ◌∷◌, ◌++◌, length, slice_get, Some, refl, ap, sym, subst, ◌∙◌, arith, length-append}
-use Rattle.std.specs.Prelude.{All}
+use Rattle.std.specs.Prelude.{All, pos}
 use Rattle.std.specs.List.{flat_map}
 use Rattle.std.proofs.lemmas.List.{length-map}
 use Rattle.std.proofs.lemmas.List.Elements.{All-head}
+use Rattle.hb_asm.specs.declared.instr.Instr.{Instr}
+use Rattle.hb_asm.specs.declared.instr.Instr.TheVariants.{Op, Load as LoadInstr, Store as StoreInstr}
 use Rattle.hb_asm.specs.declared.part.AsmPart.TheVariants.{Instr as part}
 use Rattle.hb_flat.specs.declared.form.Operand.{Operand}
 use Rattle.hb_flat.specs.declared.form.Operand.TheVariants.{Word, Number}
@@ -13,19 +15,23 @@ use Rattle.hb_flat.specs.declared.form.FlatTail.{FlatTail}
 use Rattle.hb_flat.specs.declared.form.FlatTail.TheVariants.{Done}
 use Rattle.hb_flat.specs.declared.form.FlatBlock.{FlatBlock}
 use Rattle.hb_flat.specs.declared.form.Flat.{Flat}
-use Rattle.hb_select.specs.Code.{operand_code, put_code, step_code, tail_code, code_from, block_code, program, parts_of, words_of, word_of}
+use Rattle.hb_select.specs.Code.{operand_code, put_code, step_code, tail_code, code_from, block_code, program, parts_of, words_of, word_of, load_of, store_of}
 
 -- ---- one step
 
-operand_two : (register : ℕ) (a : Operand) → length (operand_code register a) ≡ 2
-operand_two register (Word word) = refl
-operand_two register (Number number) = refl
+after_operand : (register : ℕ) (a : Operand) (rest : List Instr) → length (operand_code register a ++ rest) ≡ 2 + length rest
+after_operand register (Word word) rest = omega arith
+after_operand register (Number number) rest = omega arith
 
 step_short : (step : FlatStep) → length (step_code step) ≤ 7
-step_short (Set word a) = omega (arith, operand_two 5 a, length-append (operand_code 5 a) (put_code word))
-step_short (Alu word op a b) = omega (arith, operand_two 5 a, operand_two 6 b, length-append (operand_code 5 a) _, length-append (operand_code 6 b) _)
-step_short (Load word address width) = omega (arith, operand_two 5 address, length-append (operand_code 5 address) _)
-step_short (Store address width a) = omega (arith, operand_two 5 address, operand_two 6 a, length-append (operand_code 5 address) _, length-append (operand_code 6 a) _)
+step_short (Set word a) = omega (arith, after_operand 5 a (put_code word))
+step_short (Alu word op a b) =
+    let last = Op op 5 5 6 ∷ put_code word in
+    omega (arith, after_operand 5 a (operand_code 6 b ++ last), after_operand 6 b last)
+step_short (Load word address width) = omega (arith, after_operand 5 address (LoadInstr (load_of width) 5 5 (pos 0) ∷ put_code word))
+step_short (Store address width a) =
+    let last = StoreInstr (store_of width) 5 6 (pos 0) ∷ [] in
+    omega (arith, after_operand 5 address (operand_code 6 a ++ last), after_operand 6 a last)
 
 steps_short : (steps : List FlatStep) → length (flat_map step_code steps) ≤ 7 * length steps
 steps_short [] = omega arith
