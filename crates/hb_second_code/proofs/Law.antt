@@ -92,9 +92,9 @@ flat_fits source p = record {
   stack_least = omega arith;
   stack_most = omega arith;
   blocks =
-    All-cons (IsBlock source.ports stack_size) (block_of source) []
-    (record { frame = omega (arith, reads_few source.statements, p.few); steps = steps_fit source.ports (reads source.statements) p.rules p.bytes source.statements 0 p.statements (omega arith) })
-    (All-nil _);
+      All-cons (IsBlock source.ports stack_size) (block_of source) []
+      (record { frame = omega (arith, reads_few source.statements, p.few); steps = steps_fit source.ports (reads source.statements) p.rules p.bytes source.statements 0 p.statements (omega arith) })
+      (All-nil _);
 }
 
 -- ---- how many steps there are
