@@ -1,10 +1,11 @@
-ghost use Rattle.std.specs.Prelude.{◌≤◌, length};
+ghost use Rattle.std.specs.Prelude.{◌≤◌, IfOk, length};
+ghost use Rattle.hb_second_code.specs.Rules.{IsProgram};
 
 use crate::lower;
 use hb_asm::AluOp;
 use hb_base::Memory;
 use hb_flat::{Flat, FlatStep, Operand};
-use hb_second::{ReadError, read_source};
+use hb_second::{Source, read_source};
 use std::alloc::Global;
 use std::test::Fail;
 
@@ -13,12 +14,23 @@ const RX: Operand = Operand::Number(0x8000_0000);
 
 const TX: Operand = Operand::Number(0x8000_0004);
 
-/// The flat program of a text.
+/// The source that a text spells.
 #[tactic(auto, using(crate::proofs::Program::program_of))]
+fn program(alloc: Global, text: &[u8]) -> Result<Source, Fail>
+    requires { length text.now ≤ 1048576 }
+    ensures { IfOk result (λ source. IsProgram source) }
+{
+    match read_source(alloc, text) {
+        Ok(source) => Ok(source),
+        Err(_) => Err(Fail::from("the text is no source")),
+    }
+}
+
+/// The flat program of a text.
 fn lowered(alloc: Global, text: &[u8]) -> Result<Flat, Fail>
     requires { length text.now ≤ 1048576 }
 {
-    let source = read_source(alloc, text).map_err(|_: ReadError| "the text is no source")?;
+    let source = program(alloc, text)?;
     let flat = lower(alloc, &source).map_err(|_: Memory| "no memory")?;
     Ok(flat)
 }
