@@ -1,6 +1,6 @@
 //! From a source of the second form to its image: lowering, selection and assembling in a row.
 #![tactic(auto)]
 
-mod compile;
+mod compiling;
 
-pub use compile::compile;
+pub use compiling::compile;

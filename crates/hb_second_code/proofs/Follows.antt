@@ -73,11 +73,10 @@ operate_byte Xor a b ha hb = xor_lt 8 a b ha hb
 
 -- ---- one statement
 
-
 -- a write that stands before steps that go as the statements after it go
 stored : (ports : List Port) (n port : ℕ) (a : Atom) (ss : List Statement) (values words : List ℕ) (lines : List ScriptLine) (address : ℕ) (operand : Operand) (steps : List FlatStep) → written_at ports address 1 ≡ Some port → value_of words operand % 2 ^ (8 * 1) ≡ value values a
-       → goes n ss values lines ≡ shown ports n (record { steps = steps; tail = DoneTail; words = words; lines = lines })
-       → goes (suc n) (Write port (OneAtom a) ∷ ss) values lines ≡ shown ports (suc n) (record { steps = Store (Number address) 1 operand ∷ steps; tail = DoneTail; words = words; lines = lines })
+    → goes n ss values lines ≡ shown ports n (record { steps = steps; tail = DoneTail; words = words; lines = lines })
+    → goes (suc n) (Write port (OneAtom a) ∷ ss) values lines ≡ shown ports (suc n) (record { steps = Store (Number address) 1 operand ∷ steps; tail = DoneTail; words = words; lines = lines })
 unfolding goes shown followed turn next does writing
 stored ports n port a ss values words lines address operand steps at low later = rw (at, low, later) refl
 
@@ -143,27 +142,27 @@ goes_read n port ss values lines None e = ap (λ (o : Option ℕ). elim o [ None
 goes_read n port ss values lines (Some v) e = ap (λ (o : Option ℕ). elim o [ None ↦ ended (InputEnd port) | Some v ↦ after_event (ShowsRead port v) (goes n ss (values ++ v ∷ []) (without_first port lines)) ]) e
 
 read_goes : (ports : List Port) (n port bound : ℕ) (ss : List Statement) (values words : List ℕ) (lines : List ScriptLine) (address : ℕ) (steps : List FlatStep) → read_at ports address 1 ≡ Some port → (o : Option ℕ) → first_value port lines ≡ o
-          → ((v : ℕ) → first_value port lines ≡ Some v → goes n ss (values ++ v ∷ []) (without_first port lines) ≡ shown ports n (record { steps = steps; tail = DoneTail; words = slice_set words bound v; lines = without_first port lines }))
-          → goes (suc n) (Read port ∷ ss) values lines ≡ shown ports (suc n) (record { steps = Load bound (Number address) 1 ∷ steps; tail = DoneTail; words = words; lines = lines })
+    → ((v : ℕ) → first_value port lines ≡ Some v → goes n ss (values ++ v ∷ []) (without_first port lines) ≡ shown ports n (record { steps = steps; tail = DoneTail; words = slice_set words bound v; lines = without_first port lines }))
+    → goes (suc n) (Read port ∷ ss) values lines ≡ shown ports (suc n) (record { steps = Load bound (Number address) 1 ∷ steps; tail = DoneTail; words = words; lines = lines })
 unfolding by_line shown followed turn next does reading taking
 read_goes ports n port bound ss values words lines address steps at None e later = goes_read n port ss values lines None e ∙ rw (at, e) refl
 read_goes ports n port bound ss values words lines address steps at (Some v) e later = goes_read n port ss values lines (Some v) e ∙ rw (at, e) (ap (after_event (ShowsRead port v)) (later v e))
 
 module _ (ports : List Port) (scratch : ℕ) (rules : ArePorts ports) (bytes : All (λ (p : Port). p.width ≡ 1) ports) where
   pub follows : (n : ℕ) (ss : List Statement) (values words : List ℕ) (lines : List ScriptLine) → AreStatements ports (length values) ss → AreInputs ports lines → Holds values words scratch → length values + reads ss ≤ scratch
-       → goes n ss values lines ≡ shown ports n (record { steps = steps_of ports scratch (length values) ss; tail = DoneTail; words = words; lines = lines })
+      → goes n ss values lines ≡ shown ports n (record { steps = steps_of ports scratch (length values) ss; tail = DoneTail; words = words; lines = lines })
   unfolding goes shown followed turn next does closes
   follows zero ss values words lines fits inputs h room = refl
   follows (suc n) [] values words lines fits inputs h room = refl
   follows (suc n) (Read port ∷ ss) values words lines fits inputs h room =
       read_goes ports n port (length values) ss values words lines _ _ (read ports port rules bytes fits.0) _ refl
       (λ v e.
-        let longer : length (values ++ v ∷ []) ≡ length values + 1 = length-append values (v ∷ []) in
-        let byte = input_byte ports lines port v bytes inputs e in
-        let more = one_more values words scratch v h byte (omega (arith, room)) in
-        let left : length (values ++ v ∷ []) + reads ss ≤ scratch = omega (arith, room, longer) in
-        let rest = follows n ss (values ++ v ∷ []) (slice_set words (length values) v) (without_first port lines) (subst (λ k. AreStatements ports k ss) (sym longer) fits.1) (AreInputs-without_first ports lines port inputs) more left in
-        subst (λ k. goes n ss (values ++ v ∷ []) (without_first port lines) ≡ shown ports n (record { steps = steps_of ports scratch k ss; tail = DoneTail; words = slice_set words (length values) v; lines = without_first port lines })) longer rest)
+      let longer : length (values ++ v ∷ []) ≡ length values + 1 = length-append values (v ∷ []) in
+      let byte = input_byte ports lines port v bytes inputs e in
+      let more = one_more values words scratch v h byte (omega (arith, room)) in
+      let left : length (values ++ v ∷ []) + reads ss ≤ scratch = omega (arith, room, longer) in
+      let rest = follows n ss (values ++ v ∷ []) (slice_set words (length values) v) (without_first port lines) (subst (λ k. AreStatements ports k ss) (sym longer) fits.1) (AreInputs-without_first ports lines port inputs) more left in
+      subst (λ k. goes n ss (values ++ v ∷ []) (without_first port lines) ≡ shown ports n (record { steps = steps_of ports scratch k ss; tail = DoneTail; words = slice_set words (length values) v; lines = without_first port lines })) longer rest)
   follows (suc n) (Write port (OneAtom a) ∷ ss) values words lines fits inputs h room =
       stored ports n port a ss values words lines _ (operand_of a) _ (written ports port rules bytes fits.0)
       (ap (λ v. v % 2 ^ (8 * 1)) (value_is values words scratch h a fits.1) ∙ low_byte (value values a) (byte_is values words scratch h a fits.1))

@@ -1,4 +1,4 @@
--- The flat program of a source keeps the rules of flat programs, and each shows what the other shows.
+-- The flat program of a source keeps the rules of flat programs and has few steps, and each shows what the other shows.
 use Rattle.std.proofs.Common.{◌≡◌, ℕ, zero, suc, ◌+◌, ◌-◌, ◌*◌, ◌<◌, ◌≤◌, List, [], ◌∷◌, ◌++◌, length, Option, Some, refl, sym, ap, ◌∙◌, arith, length-append}
 use Rattle.std.specs.Prelude.{All, replicate, slice_get, IsSome}
 use Rattle.std.specs.Option.{option_map_or}
@@ -10,6 +10,7 @@ use Rattle.hb_base.specs.declared.port.Dir.TheVariants.{In, Out}
 use Rattle.hb_base.specs.Ports.{ArePorts}
 use Rattle.hb_base.specs.Inputs.{AreInputs}
 use Rattle.hb_runs.specs.Outcome.{SameRuns}
+use Rattle.hb_flat.specs.declared.form.FlatBlock.{FlatBlock}
 use Rattle.hb_flat.specs.declared.form.FlatStep.{FlatStep}
 use Rattle.hb_flat.specs.declared.form.Operand.{Operand}
 use Rattle.hb_flat.specs.declared.form.Operand.TheVariants.{Word}
@@ -91,7 +92,27 @@ flat_fits source p = record {
   stack_least = omega arith;
   stack_most = omega arith;
   blocks =
-    All-cons (IsBlock source.ports stack_size) (block_of source) []
-    (record { frame = omega (arith, reads_few source.statements, p.few); steps = steps_fit source.ports (reads source.statements) p.rules p.bytes source.statements 0 p.statements (omega arith) })
-    (All-nil _);
+      All-cons (IsBlock source.ports stack_size) (block_of source) []
+      (record { frame = omega (arith, reads_few source.statements, p.few); steps = steps_fit source.ports (reads source.statements) p.rules p.bytes source.statements 0 p.statements (omega arith) })
+      (All-nil _);
 }
+
+-- ---- how many steps there are
+
+written_few : (ports : List Port) (scratch port : ℕ) (argument : Argument) → length (write_steps ports scratch port argument) ≤ 2
+written_few ports scratch port (OneAtom a) = omega arith
+written_few ports scratch port (Operation a op b) = omega arith
+
+-- at most two steps for each statement
+steps_few : (ports : List Port) (scratch : ℕ) (ss : List Statement) (bound : ℕ) → length (steps_of ports scratch bound ss) ≤ 2 * length ss
+steps_few ports scratch [] bound = omega arith
+steps_few ports scratch (Read port ∷ ss) bound = omega (arith, steps_few ports scratch ss (bound + 1))
+steps_few ports scratch (Write port argument ∷ ss) bound =
+    let both = length-append (write_steps ports scratch port argument) (steps_of ports scratch bound ss) in
+    omega (arith, both, written_few ports scratch port argument, steps_few ports scratch ss bound)
+
+pub blocks_few : (source : Source) → IsProgram source → All (λ (block : FlatBlock). length block.steps ≤ 2000) (flat_of source).blocks
+blocks_few source p =
+    All-cons (λ (block : FlatBlock). length block.steps ≤ 2000) (block_of source) []
+    (omega (arith, p.few, steps_few source.ports (reads source.statements) source.statements 0))
+    (All-nil _)

@@ -51,18 +51,18 @@ and_false false c e = refl
 
 -- the first port that goes this way and stands at the address of the port of this number is that port
 pub met_first : (way : Dir → Bool) (ports : List Port) (number : ℕ) (port : Port) → ArePorts ports → All (λ (p : Port). p.width ≡ 1) ports → slice_get ports number ≡ Some port → way port.dir ≡ true
-       → position (λ (p : Port). way p.dir && is_at port.address 1 p) ports ≡ Some number
+    → position (λ (p : Port). way p.dir && is_at port.address 1 p) ports ≡ Some number
 met_first way ports number port rules bytes e goes =
     let got = get_is ports number port e in
     let wide : (get_or ports number port).width ≡ 1 = bytes number port got.0 in
     position_is (λ (p : Port). way p.dir && is_at port.address 1 p) ports number port got.0
     (rw got.1 (rw goes (here_is port.address port.width (subst (λ (p : Port). p.width ≡ 1) got.1 wide))))
     (λ k below.
-      let before = get_or ports k port in
-      let apart : AreApart before (get_or ports number port) = rules.apart k number port below got.0 in
-      let wide_before : before.width ≡ 1 = bytes k port (omega arith) in
-      let differ : before.address ≢ port.address = λ same. differs before port (subst (AreApart before) got.1 apart) wide_before (subst (λ (p : Port). p.width ≡ 1) got.1 wide) same in
-      and_false (way before.dir) _ (other_address before.address port.address before.width differ))
+    let before = get_or ports k port in
+    let apart : AreApart before (get_or ports number port) = rules.apart k number port below got.0 in
+    let wide_before : before.width ≡ 1 = bytes k port (omega arith) in
+    let differ : before.address ≢ port.address = λ same. differs before port (subst (AreApart before) got.1 apart) wide_before (subst (λ (p : Port). p.width ≡ 1) got.1 wide) same in
+    and_false (way before.dir) _ (other_address before.address port.address before.width differ))
   where
     differs : (p q : Port) → AreApart p q → p.width ≡ 1 → q.width ≡ 1 → p.address ≡ q.address → ⊥
     differs p q apart ep eq same = ⊎_elim (λ h. omega arith) (λ h. omega arith) apart

@@ -2,5 +2,7 @@
 #![tactic(auto)]
 
 mod lowering;
+#[cfg(test)]
+mod tests;
 
 pub use lowering::lower;

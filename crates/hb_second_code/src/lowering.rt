@@ -1,4 +1,4 @@
-ghost use Rattle.std.specs.Prelude.{◌≡◌, ◌+◌, ◌≤◌, ◌++◌, List, IfOk, OnOk, length};
+ghost use Rattle.std.specs.Prelude.{◌≡◌, ◌+◌, ◌≤◌, ◌++◌, List, All, IfOk, OnOk, length};
 ghost use Rattle.hb_base.specs.Inputs.{AreInputs};
 ghost use Rattle.hb_base.specs.declared.script.ScriptLine.{ScriptLine};
 ghost use Rattle.hb_runs.specs.Outcome.{SameRuns};
@@ -157,11 +157,13 @@ fn flat_of(alloc: Global, source: &Source) -> Result<Flat, Memory>
     })
 }
 
-/// The flat program of a source: whatever the inputs are, each shows what the other shows.
+/// The flat program of a source: whatever the inputs are, each shows what the other shows. It has at most two steps for
+/// each statement. `Memory` where memory runs out.
 pub fn lower(alloc: Global, source: &Source) -> Result<Flat, Memory>
     requires { IsProgram source.now }
     ensures rules { IfOk result (λ flat. IsFlat flat source.now.ports) }
     ensures stack { IfOk result (λ flat. flat.stack ≡ 1048576) }
+    ensures few { IfOk result (λ flat. All (λ block. length block.steps ≤ 2000) flat.blocks) }
     ensures runs { IfOk result (λ flat. (lines : List ScriptLine) → AreInputs source.now.ports lines → SameRuns (says source.now lines) (runs flat source.now.ports lines)) }
 {
     let flat = flat_of(alloc, source)?;
