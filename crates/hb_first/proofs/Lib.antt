@@ -1,3 +1,0 @@
-pub mod ScanSteps
-pub mod TokensLaws
-pub mod FormLaws

@@ -1,6 +1,0 @@
-pub mod Bytes
-pub mod Tokens
-pub mod Scan
-pub mod Form
-pub mod Candidate
-pub mod Meaning
