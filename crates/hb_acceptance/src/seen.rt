@@ -38,6 +38,18 @@ pub fn call(
     let mut shelf = MemShelf::new(alloc, shelf_fails).expect(rt, "memory");
     shelf.add("a.hb", source).expect(rt, "memory");
     shelf.add("a.script", script).expect(rt, "memory");
+    called(rt, alloc, line, shelf, sink_fails)
+}
+
+/// Runs the image in `b.img` with these words over the files `b.img` and `a.script`.
+pub fn exec(rt: &impl Abort, alloc: Global, line: &[u8], image: &[u8], script: &[u8]) -> Seen {
+    let mut shelf = MemShelf::new(alloc, &[]).expect(rt, "memory");
+    shelf.add("b.img", image).expect(rt, "memory");
+    shelf.add("a.script", script).expect(rt, "memory");
+    called(rt, alloc, line, shelf, &[])
+}
+
+fn called(rt: &impl Abort, alloc: Global, line: &[u8], mut shelf: MemShelf, sink_fails: &[u64]) -> Seen {
     let mut out = MemSink::new(alloc, 65_536, sink_fails).expect(rt, "memory");
     let words = words_of(rt, alloc, line);
     let status = habit(alloc, &words, &mut shelf, &mut out);
@@ -46,6 +58,11 @@ pub fn call(
         text: Vec::from_slice(alloc, out.bytes()).expect(rt, "memory"),
         image: shelf.file("a.img").map(|bytes| bytes.len()),
     }
+}
+
+/// Runs `a.hb` on a script.
+pub fn run_on(rt: &impl Abort, alloc: Global, source: &[u8], script: &[u8]) -> Seen {
+    call(rt, alloc, b"run a.hb a.script a.img", source, script, &[], &[])
 }
 
 /// Runs `a.hb` on an empty script.
