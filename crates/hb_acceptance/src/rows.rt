@@ -22,7 +22,11 @@ const MOST_BYTES: usize = 1_048_576;
 fn one_write_is_put_and_the_run_is_done(rt: HostRuntime) {
     let seen = run(&rt, rt.alloc(), ONE_WRITE);
     assert_eq!(rt; seen.status, 0);
-    assert!(rt; seen.text.as_slice().starts_with(b"w tx 41\nend done ".as_slice()));
+    assert!(rt;
+        seen.text
+            .as_slice()
+            .starts_with(b"w tx 41\nend done ".as_slice())
+    );
     assert!(rt; seen.image.is_some());
 }
 
@@ -53,7 +57,12 @@ fn a_source_of_the_greatest_size_runs_and_one_byte_more_is_refused(
     }
     let whole = run(&rt, alloc, source.as_slice());
     assert_eq!(rt; whole.status, 0);
-    assert!(rt; whole.text.as_slice().starts_with(b"w tx 41\nend done ".as_slice()));
+    assert!(rt;
+        whole
+            .text
+            .as_slice()
+            .starts_with(b"w tx 41\nend done ".as_slice())
+    );
     source.push(b' ')?;
     let more = run(&rt, alloc, source.as_slice());
     assert_eq!(rt; more.status, 1);
@@ -101,7 +110,12 @@ fn a_thousand_writes_are_put_and_one_more_is_refused(rt: HostRuntime) -> Result<
     more.extend_from_slice(b"; writePort tx X43 } }".as_slice())?;
     let whole = run(&rt, alloc, source.as_slice());
     assert_eq!(rt; whole.status, 0);
-    assert!(rt; whole.text.as_slice().starts_with(b"w tx 41\nw tx 42\n".as_slice()));
+    assert!(rt;
+        whole
+            .text
+            .as_slice()
+            .starts_with(b"w tx 41\nw tx 42\n".as_slice())
+    );
     assert!(rt; whole.text.len() > 8 * 1000);
     assert_eq!(rt; run(&rt, alloc, more.as_slice()).status, 1);
     Ok(())
@@ -255,7 +269,13 @@ fn images_are_run_by_the_table(rt: HostRuntime) {
 
 #[test]
 fn a_run_ends_where_its_steps_do(rt: HostRuntime) {
-    let seen = exec(&rt, rt.alloc(), b"exec b.img a.script --steps 2", &HALT_FIVE, b"");
+    let seen = exec(
+        &rt,
+        rt.alloc(),
+        b"exec b.img a.script --steps 2",
+        &HALT_FIVE,
+        b"",
+    );
     assert_eq!(rt; seen.status, 9);
     assert_eq!(rt; seen.text.as_slice(), b"end steps 2\n".as_slice());
 }

@@ -49,7 +49,13 @@ pub fn exec(rt: &impl Abort, alloc: Global, line: &[u8], image: &[u8], script: &
     called(rt, alloc, line, shelf, &[])
 }
 
-fn called(rt: &impl Abort, alloc: Global, line: &[u8], mut shelf: MemShelf, sink_fails: &[u64]) -> Seen {
+fn called(
+    rt: &impl Abort,
+    alloc: Global,
+    line: &[u8],
+    mut shelf: MemShelf,
+    sink_fails: &[u64],
+) -> Seen {
     let mut out = MemSink::new(alloc, 65_536, sink_fails).expect(rt, "memory");
     let words = words_of(rt, alloc, line);
     let status = habit(alloc, &words, &mut shelf, &mut out);
@@ -62,7 +68,15 @@ fn called(rt: &impl Abort, alloc: Global, line: &[u8], mut shelf: MemShelf, sink
 
 /// Runs `a.hb` on a script.
 pub fn run_on(rt: &impl Abort, alloc: Global, source: &[u8], script: &[u8]) -> Seen {
-    call(rt, alloc, b"run a.hb a.script a.img", source, script, &[], &[])
+    call(
+        rt,
+        alloc,
+        b"run a.hb a.script a.img",
+        source,
+        script,
+        &[],
+        &[],
+    )
 }
 
 /// Runs `a.hb` on an empty script.

@@ -33,7 +33,12 @@ pub fn name_of(name: &Text) -> &str
 }
 
 /// The first bytes of a file.
-fn read_file<F: Shelf>(alloc: Global, shelf: &mut F, name: &str, cap: usize) -> Result<Vec<u8>, Failure>
+fn read_file<F: Shelf>(
+    alloc: Global,
+    shelf: &mut F,
+    name: &str,
+    cap: usize,
+) -> Result<Vec<u8>, Failure>
     ensures { ReadsFile (shelved (F.files shelf.old) (F.read_faults shelf.old) (F.write_faults shelf.old)) (shelved (F.files shelf.new) (F.read_faults shelf.new) (F.write_faults shelf.new)) name.now cap result }
 {
     match shelf.read(alloc, name, cap) {
@@ -68,7 +73,11 @@ fn find_file<F: Shelf>(alloc: Global, shelf: &mut F, name: &str) -> Result<Image
 }
 
 /// The image of a command: compiled from its source, or read from its file.
-pub fn find_image<F: Shelf>(alloc: Global, shelf: &mut F, command: &Command) -> Result<Image, Failure>
+pub fn find_image<F: Shelf>(
+    alloc: Global,
+    shelf: &mut F,
+    command: &Command,
+) -> Result<Image, Failure>
     requires { HasNames command.now }
     ensures { FindsImage (shelved (F.files shelf.old) (F.read_faults shelf.old) (F.write_faults shelf.old)) (shelved (F.files shelf.new) (F.read_faults shelf.new) (F.write_faults shelf.new)) command.now result }
 {
@@ -79,7 +88,12 @@ pub fn find_image<F: Shelf>(alloc: Global, shelf: &mut F, command: &Command) -> 
 }
 
 /// The inputs in the file of this name.
-fn read_script<F: Shelf>(alloc: Global, shelf: &mut F, name: &str, ports: &Items<Port>) -> Result<Script, Failure>
+fn read_script<F: Shelf>(
+    alloc: Global,
+    shelf: &mut F,
+    name: &str,
+    ports: &Items<Port>,
+) -> Result<Script, Failure>
     requires { ArePorts ports.now }
     ensures { FindsScript (shelved (F.files shelf.old) (F.read_faults shelf.old) (F.write_faults shelf.old)) (shelved (F.files shelf.new) (F.read_faults shelf.new) (F.write_faults shelf.new)) name.now ports.now result }
 {
@@ -88,7 +102,12 @@ fn read_script<F: Shelf>(alloc: Global, shelf: &mut F, name: &str, ports: &Items
 }
 
 /// The inputs of a command.
-pub fn find_script<F: Shelf>(alloc: Global, shelf: &mut F, command: &Command, ports: &Items<Port>) -> Result<Script, Failure>
+pub fn find_script<F: Shelf>(
+    alloc: Global,
+    shelf: &mut F,
+    command: &Command,
+    ports: &Items<Port>,
+) -> Result<Script, Failure>
     requires names { HasNames command.now }
     requires ports { ArePorts ports.now }
     ensures { FindsScript (shelved (F.files shelf.old) (F.read_faults shelf.old) (F.write_faults shelf.old)) (shelved (F.files shelf.new) (F.read_faults shelf.new) (F.write_faults shelf.new)) (script_name command.now) ports.now result }

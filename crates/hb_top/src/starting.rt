@@ -41,7 +41,13 @@ fn load(alloc: Global, image: Image, script: Script) -> Result<Machine, Failure>
 }
 
 /// Loads the image, and then writes it.
-fn store<F: Shelf>(alloc: Global, shelf: &mut F, name: &str, image: Image, script: Script) -> Result<Machine, Failure>
+fn store<F: Shelf>(
+    alloc: Global,
+    shelf: &mut F,
+    name: &str,
+    image: Image,
+    script: Script,
+) -> Result<Machine, Failure>
     requires image { IsImage image }
     requires script { AreInputs image.ports script.lines }
     ensures { StoresImage (shelved (F.files shelf.old) (F.read_faults shelf.old) (F.write_faults shelf.old)) (shelved (F.files shelf.new) (F.read_faults shelf.new) (F.write_faults shelf.new)) name.now image script.lines result }
@@ -55,7 +61,13 @@ fn store<F: Shelf>(alloc: Global, shelf: &mut F, name: &str, image: Image, scrip
 }
 
 /// The machine of a command. A compiled image is written, once all memory is taken.
-pub fn finish<F: Shelf>(alloc: Global, shelf: &mut F, command: &Command, image: Image, script: Script) -> Result<Machine, Failure>
+pub fn finish<F: Shelf>(
+    alloc: Global,
+    shelf: &mut F,
+    command: &Command,
+    image: Image,
+    script: Script,
+) -> Result<Machine, Failure>
     requires names { HasNames command.now }
     requires image { IsImage image }
     requires script { AreInputs image.ports script.lines }
