@@ -1,6 +1,5 @@
 -- What was prepared and what was told are together what the top call promises.
-use Rattle.std.proofs.Common.{◌≡◌, ◌≢◌, ℕ, List, inl, inr, sym, ap, subst, ◌∙◌}
-use Rattle.hb_base.specs.declared.step.Stop.TheVariants.{Sink}
+use Rattle.std.proofs.Common.{◌≡◌, ℕ, List, inl, inr, sym, ap, subst, ◌∙◌}
 use Rattle.hb_io.specs.Taken.{TookFront}
 use Rattle.hb_io.specs.TakenLaws.{took_all}
 use Rattle.hb_io.specs.Counts.{Rose}
@@ -13,7 +12,7 @@ use Rattle.hb_top.specs.Texts.{line_of, text_from, text_of, stop_after, status_o
 use Rattle.hb_top.specs.World.{World, Printed, Shelved, world}
 use Rattle.hb_top.specs.Preparing.{Loads, FailsBy, WriteFaultOf, steps_of}
 use Rattle.hb_top.specs.Executing.{Puts, PutsFront, Tells, whole, cut, TellsRun, whole_run, cut_run, TellsFailure}
-use Rattle.hb_top.specs.Answers.{Answers, ran, source_refused, words_refused, script_refused, read_fault, fault, image_refused, no_memory, Runs, Reports, Faults, Stands, failing, running}
+use Rattle.hb_top.specs.Answers.{Answers, ran, source_refused, words_refused, script_refused, read_fault, fault, image_refused, no_memory, Reports, Faults, failing, running}
 
 -- only a command that compiles fails to write
 rose_of : (old new : Shelved) (command : Command) → WriteFaultOf command old new → Rose old.write_faults new.write_faults

@@ -1,27 +1,26 @@
 -- The lines that a run put and the end line after them are the text of the run.
-use Rattle.std.proofs.Common.{◌≡◌, ℕ, suc, ◌+◌, ◌-◌, ◌<◌, ◌≤◌, List, [], ◌∷◌, ◌++◌, Option, Some, None, true, false, ◌⊎◌, inl, inr, sym, ap, subst, ◌∙◌, refl, arith, append_assoc}
-use Rattle.std.specs.Prelude.{IsTrue}
+use Rattle.std.proofs.Common.{◌≡◌, ℕ, suc, ◌+◌, ◌-◌, ◌<◌, List, [], ◌∷◌, ◌++◌, Option, ◌⊎◌, inl, inr, sym, ap, subst, ◌∙◌, refl, arith, append_assoc}
 use Rattle.hb_base.specs.declared.step.Step.{Step}
 use Rattle.hb_base.specs.declared.step.Stop.{Stop}
-use Rattle.hb_base.specs.declared.step.Stop.TheVariants.{Done, Halt, Stack, InputEnd, Steps, Illegal, Misaligned, Unmapped, Break, Sink}
+use Rattle.hb_base.specs.declared.step.Stop.TheVariants.{Sink}
 use Rattle.hb_base.specs.declared.port.Port.{Port}
 use Rattle.hb_io.specs.Counts.{Rose}
 use Rattle.hb_io.specs.Taken.{appended, TookFront}
 use Rattle.hb_io.specs.TakenLaws.{appended-appended, took_after, took_of_more}
 use Rattle.hb_runs.specs.Stepping.{after, answers}
-use Rattle.hb_runs.proofs.Stepping.{after-add, answers-add}
-use Rattle.hb_script.specs.Ends.{end_of, IsNamed}
+use Rattle.hb_runs.proofs.Stepping.{answers-add}
+use Rattle.hb_script.specs.Ends.{end_of}
 use Rattle.hb_script.specs.Lines.{lines_of, line_of}
 use Rattle.hb_mach.specs.State.{State}
 use Rattle.hb_mach.specs.Table.{table}
 use Rattle.hb_mach.specs.Run.{events, shown, stop_of}
-use Rattle.hb_mach.specs.Running.{lines_shown, Ran, RanToLimit, RanToFault}
+use Rattle.hb_mach.specs.Running.{lines_shown, RanToLimit, RanToFault}
 use Rattle.hb_mach.proofs.KeepsLaws.{ports-after}
 use Rattle.hb_mach.proofs.RunLaws.{events-append}
 use Rattle.hb_mach.proofs.RunningLaws.{lines_shown-suc}
 use Rattle.hb_top.specs.Texts.{text_from, stop_after, status_of}
 use Rattle.hb_top.specs.World.{printed}
-use Rattle.hb_top.specs.Executing.{TellsRun, whole_run, cut_run, Puts, PutsFront}
+use Rattle.hb_top.specs.Executing.{TellsRun, whole_run, cut_run}
 
 -- the text is the lines of the run and then its end
 text_is : (s : State) (limit : ℕ) → text_from s limit ≡ lines_shown s limit ++ end_of s.ports (stop_after s limit) (after table limit s).done

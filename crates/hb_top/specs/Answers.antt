@@ -10,7 +10,7 @@ use Rattle.hb_words.specs.declared.words.Command.{Command}
 use Rattle.hb_top.specs.declared.failure.Refusal.{Refusal}
 use Rattle.hb_top.specs.declared.failure.NoImage.{NoImage}
 use Rattle.hb_top.specs.declared.failure.Failure.{Failure}
-use Rattle.hb_top.specs.declared.failure.Failure.TheVariants.{Words, Refused, Script, Image as ImageRefused, Read, Write, Memory}
+use Rattle.hb_top.specs.declared.failure.Failure.TheVariants.{Words, Refused, Script, Image as ImageRefused, Read}
 use Rattle.hb_top.specs.Texts.{line_of, text_of, stop_after, status_of}
 use Rattle.hb_top.specs.World.{World}
 use Rattle.hb_top.specs.Preparing.{IsReady, FailsBy, steps_of, shelf_after}

@@ -4,7 +4,7 @@ use Rattle.hb_base.specs.declared.step.Stop.TheVariants.{Sink}
 use Rattle.hb_io.specs.Counts.{Rose}
 use Rattle.hb_io.specs.Taken.{appended, TookFront}
 use Rattle.hb_mach.specs.State.{State}
-use Rattle.hb_top.specs.Texts.{text_from, stop_after, status_of, line_of, status_of_failure}
+use Rattle.hb_top.specs.Texts.{text_from, stop_after, status_of, line_of}
 use Rattle.hb_top.specs.declared.failure.Failure.{Failure}
 use Rattle.hb_top.specs.declared.failure.Failure.TheVariants.{Words, Refused, Script, Image, Read, Write, Memory}
 use Rattle.hb_top.specs.World.{Printed}

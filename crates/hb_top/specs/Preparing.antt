@@ -1,19 +1,15 @@
 -- What comes before a run: the words, the image, which is compiled or read, the script, and the file that is written.
 -- Only files are touched.
-use Rattle.std.specs.Prelude.{◌≡◌, ℕ, List, Option, Result, Ok, Err, Vec}
-use Rattle.std.specs.declared.alloc.Global.{Global}
+use Rattle.std.specs.Prelude.{◌≡◌, ℕ, List, Ok, Err}
 use Rattle.hb_base.specs.declared.port.Port.{Port}
 use Rattle.hb_base.specs.declared.script.ScriptLine.{ScriptLine}
-use Rattle.hb_base.specs.declared.script.Script.{Script as Inputs}
-use Rattle.hb_base.specs.Inputs.{AreInputs}
 use Rattle.hb_compile.specs.Means.{Means}
 use Rattle.hb_image.specs.declared.image.Image.{Image}
 use Rattle.hb_image.specs.Format.{spelling}
 use Rattle.hb_image.specs.Reading.{image_of}
-use Rattle.hb_image.specs.Rules.{IsImage}
 use Rattle.hb_image.specs.declared.fault.ImageError.TheVariants as errors
 use Rattle.hb_io.specs.Counts.{Rose}
-use Rattle.hb_io.specs.Files.{Files, written, without, HoldsFront}
+use Rattle.hb_io.specs.Files.{written, without, HoldsFront}
 use Rattle.hb_mach.specs.State.{State, start}
 use Rattle.hb_script.specs.Scripts.{script_of}
 use Rattle.hb_second.specs.declared.source.Source.{Source}
