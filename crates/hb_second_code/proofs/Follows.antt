@@ -1,5 +1,5 @@
 -- The flat program of a source shows at each count what the source says, from the run of `main`'s `do` on.
-use Rattle.std.proofs.Common.{◌≡◌, ◌≢◌, ℕ, zero, suc, ◌+◌, ◌-◌, ◌*◌, ◌%◌, ◌^◌, ◌<◌, ◌≤◌, List, [], ◌∷◌, ◌++◌, length, get_or, Option, Some, None, refl, sym, ap, subst, ◌∙◌, arith, ◌⊎◌, inl, inr, ⊎_elim, length-append, get_or-set_other, get_or-set_same}
+use Rattle.std.proofs.Common.{◌≡◌, ◌≢◌, ℕ, zero, suc, ◌+◌, ◌*◌, ◌%◌, ◌^◌, ◌<◌, ◌≤◌, List, [], ◌∷◌, ◌++◌, length, Option, Some, None, refl, sym, ap, subst, ◌∙◌, arith, ◌⊎◌, inl, inr, length-append, get_or-set_other, get_or-set_same}
 use Rattle.std.specs.Prelude.{slice_get, slice_index, slice_set, All, IsSomeAnd, bit_and, bit_or, bit_xor}
 use Rattle.std.proofs.lemmas.Nat.{xor_lt, or_lt, and_le_l}
 use Rattle.std.proofs.lemmas.Bool.{cases_lt}
@@ -9,7 +9,7 @@ use Rattle.std.proofs.lemmas.List.{get_or_append_left}
 use Rattle.hb_base.specs.declared.port.Port.{Port}
 use Rattle.hb_base.specs.declared.script.ScriptLine.{ScriptLine}
 use Rattle.hb_base.specs.declared.step.Step.{Step}
-use Rattle.hb_base.specs.declared.step.Step.TheVariants.{Read as ShowsRead, Wrote}
+use Rattle.hb_base.specs.declared.step.Step.TheVariants.{Read as ShowsRead}
 use Rattle.hb_base.specs.declared.step.Stop.{Stop}
 use Rattle.hb_base.specs.declared.step.Stop.TheVariants.{InputEnd}
 use Rattle.hb_base.specs.Ports.{ArePorts}
@@ -21,20 +21,18 @@ use Rattle.hb_flat.specs.declared.form.Operand.TheVariants.{Word, Number}
 use Rattle.hb_flat.specs.declared.form.FlatStep.{FlatStep}
 use Rattle.hb_flat.specs.declared.form.FlatStep.TheVariants.{Load, Store}
 use Rattle.hb_flat.specs.declared.form.FlatTail.TheVariants.{Done as DoneTail}
-use Rattle.hb_flat.specs.Meaning.{Thread, Turn, Event, value_of, taking, reading, writing, does, closes, next, turn, followed, shown, read_at, written_at}
+use Rattle.hb_flat.specs.Meaning.{value_of, taking, reading, writing, does, closes, next, turn, followed, shown, read_at, written_at}
 use Rattle.hb_second.specs.declared.source.Atom.{Atom}
 use Rattle.hb_second.specs.declared.source.Atom.TheVariants.{Literal, Variable}
 use Rattle.hb_second.specs.declared.source.Operator.{Operator}
 use Rattle.hb_second.specs.declared.source.Operator.TheVariants.{Add, Sub, And, Or, Xor}
-use Rattle.hb_second.specs.declared.source.Argument.{Argument}
 use Rattle.hb_second.specs.declared.source.Argument.TheVariants.{Atom as OneAtom, Operation}
 use Rattle.hb_second.specs.declared.source.Statement.{Statement}
 use Rattle.hb_second.specs.declared.source.Statement.TheVariants.{Read, Write}
 use Rattle.hb_second.specs.Meaning.{operate, value, goes, after_event, ended}
-use Rattle.hb_script.specs.Lines.{IsEvent}
 use Rattle.hb_mach.proofs.PortLaws.{first_value-event, AreInputs-without_first}
-use Rattle.hb_second_code.specs.Rules.{IsAtom, IsArgument, AreStatements, GoesAt}
-use Rattle.hb_second_code.specs.Lowering.{operand_of, alu_op_of, address_of, reads, steps_of}
+use Rattle.hb_second_code.specs.Rules.{IsAtom, AreStatements}
+use Rattle.hb_second_code.specs.Lowering.{operand_of, alu_op_of, reads, steps_of}
 use Rattle.hb_second_code.proofs.Places.{written, read, get_is}
 
 -- the words of the frame hold the values of the variables that are bound, and there is one word more

@@ -1,21 +1,18 @@
 -- The flat program of a source keeps the rules of flat programs and has few steps, and each shows what the other shows.
-use Rattle.std.proofs.Common.{◌≡◌, ℕ, zero, suc, ◌+◌, ◌-◌, ◌*◌, ◌<◌, ◌≤◌, List, [], ◌∷◌, ◌++◌, length, Option, Some, refl, sym, ap, ◌∙◌, arith, length-append}
-use Rattle.std.specs.Prelude.{All, replicate, slice_get, IsSome}
-use Rattle.std.specs.Option.{option_map_or}
+use Rattle.std.proofs.Common.{◌≡◌, ℕ, ◌+◌, ◌-◌, ◌*◌, ◌<◌, ◌≤◌, List, [], ◌∷◌, length, Option, Some, refl, sym, ◌∙◌, arith, length-append}
+use Rattle.std.specs.Prelude.{All, replicate, IsSome}
 use Rattle.std.proofs.lemmas.List.{length-replicate}
 use Rattle.std.proofs.lemmas.List.Elements.{All-nil, All-cons, All-append}
 use Rattle.hb_base.specs.declared.port.Port.{Port}
 use Rattle.hb_base.specs.declared.script.ScriptLine.{ScriptLine}
-use Rattle.hb_base.specs.declared.port.Dir.TheVariants.{In, Out}
+use Rattle.hb_base.specs.declared.port.Dir.TheVariants.{Out}
 use Rattle.hb_base.specs.Ports.{ArePorts}
 use Rattle.hb_base.specs.Inputs.{AreInputs}
 use Rattle.hb_runs.specs.Outcome.{SameRuns}
 use Rattle.hb_flat.specs.declared.form.FlatBlock.{FlatBlock}
-use Rattle.hb_flat.specs.declared.form.FlatStep.{FlatStep}
-use Rattle.hb_flat.specs.declared.form.Operand.{Operand}
 use Rattle.hb_flat.specs.declared.form.Operand.TheVariants.{Word}
 use Rattle.hb_flat.specs.declared.form.FlatStep.TheVariants.{Alu, Load, Store}
-use Rattle.hb_flat.specs.Meaning.{runs, shown_from, read_at, written_at}
+use Rattle.hb_flat.specs.Meaning.{runs, shown_from}
 use Rattle.hb_flat.specs.Rules.{IsOperand, IsStep, IsBlock, IsFlat}
 use Rattle.hb_second.specs.declared.source.Atom.{Atom}
 use Rattle.hb_second.specs.declared.source.Atom.TheVariants.{Literal, Variable}

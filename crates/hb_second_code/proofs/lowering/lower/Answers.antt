@@ -1,6 +1,5 @@
 use Rattle.std.proofs.Common.{◌≤◌, length, sym, subst}
 use Rattle.std.specs.Prelude.{All}
-use Rattle.hb_base.specs.Inputs.{AreInputs}
 use Rattle.hb_runs.specs.Outcome.{SameRuns}
 use Rattle.hb_flat.specs.declared.form.Flat.{Flat}
 use Rattle.hb_flat.specs.declared.form.FlatBlock.{FlatBlock}
