@@ -1,5 +1,5 @@
 -- What lowering, selection and assembling keep is kept by all three in a row.
-use Rattle.std.proofs.Common.{◌≡◌, ℕ, ◌+◌, ◌*◌, ◌≤◌, List, length, refl, ap, sym, subst, ◌∙◌, arith}
+use Rattle.std.proofs.Common.{◌≡◌, ℕ, ◌≤◌, List, length, refl, ap, sym, subst, ◌∙◌, arith}
 use Rattle.std.specs.Prelude.{All}
 use Rattle.hb_base.specs.Inputs.{AreInputs}
 use Rattle.hb_base.specs.Ports.{ArePorts}

@@ -2,5 +2,7 @@
 #![tactic(auto)]
 
 mod compiling;
+#[cfg(test)]
+mod tests;
 
 pub use compiling::compile;
