@@ -83,3 +83,33 @@ pub fn run_on(rt: &impl Abort, alloc: Global, source: &[u8], script: &[u8]) -> S
 pub fn run(rt: &impl Abort, alloc: Global, source: &[u8]) -> Seen {
     call(rt, alloc, b"run a.hb a.script a.img", source, b"", &[], &[])
 }
+
+/// The bytes of an image before its number of words: no ports, areas of 4,096 bytes, and a stack of 4,096 bytes.
+const HEAD: [u8; 16] = [
+    0x48, 0x42, 0x49, 0x4D, 1, 0, 0, 0, 0, 0x10, 0, 0, 0, 0x10, 0, 0,
+];
+
+/// An image of this code.
+pub fn image_of(rt: &impl Abort, alloc: Global, code: &[u32]) -> Vec<u8> {
+    let count = u32::try_from(code.len()).expect(rt, "a count of words");
+    let mut image = Vec::from_slice(alloc, &HEAD).expect(rt, "memory");
+    image
+        .extend_from_slice(&count.to_le_bytes())
+        .expect(rt, "memory");
+    for word in code {
+        image
+            .extend_from_slice(&word.to_le_bytes())
+            .expect(rt, "memory");
+    }
+    image
+}
+
+/// LUI and ADDI that set a register, by its number below 32, to a word. ADDI adds a signed number, so LUI rounds.
+pub fn setting(register: u32, word: u32) -> [u32; 2] {
+    let upper = word.wrapping_add(0x800) & 0xFFFF_F000;
+    let lower = word << 20;
+    [
+        upper | register << 7 | 0x37,
+        lower | register << 15 | register << 7 | 0x13,
+    ]
+}

@@ -1,0 +1,4 @@
+{ port rx :: In (Bit 8) at X80000000;
+  port tx :: Out (Bit 8) at X80000004;
+  main :: M Unit;
+  main = do { a <- readPort rx; b <- readPort rx; writePort tx (a + b) } }
