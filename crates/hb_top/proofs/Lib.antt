@@ -1,3 +1,4 @@
 pub mod PreparingLaws
 pub mod ExecuteLaws
 pub mod Composition
+pub mod Headline

@@ -5,3 +5,4 @@ pub mod Preparing
 pub mod Steps
 pub mod Executing
 pub mod Answers
+pub mod Headline

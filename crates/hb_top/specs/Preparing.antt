@@ -3,7 +3,9 @@
 use Rattle.std.specs.Prelude.{◌≡◌, ℕ, List, Ok, Err}
 use Rattle.hb_base.specs.declared.port.Port.{Port}
 use Rattle.hb_base.specs.declared.script.ScriptLine.{ScriptLine}
+use Rattle.hb_base.specs.Inputs.{AreInputs}
 use Rattle.hb_compile.specs.Means.{Means}
+use Rattle.hb_image.specs.Rules.{IsImage}
 use Rattle.hb_image.specs.declared.image.Image.{Image}
 use Rattle.hb_image.specs.Format.{spelling}
 use Rattle.hb_image.specs.Reading.{image_of}
@@ -52,11 +54,12 @@ pub record TakesImage (old : Shelved) (name : List ℕ) (image : Image) : Type 0
   pub got : HoldsFront old.files name most_of_image bytes
   pub spelled : bytes ≡ spelling image
 
--- the inputs that the file of this name spells
+-- the inputs that the file of this name spells; each is one of an In port, and has its width
 pub record TakesScript (old : Shelved) (name : List ℕ) (ports : List Port) (inputs : List ScriptLine) : Type 0 where
   pub bytes : List ℕ
   pub got : HoldsFront old.files name most_read bytes
   pub spelled : script_of ports bytes ≡ Ok inputs
+  pub fit : AreInputs ports inputs
 
 -- the file of this name holds no source
 pub record HoldsNoSource (old : Shelved) (file : List ℕ) (refusal : Refusal) : Type 0 where
@@ -100,10 +103,11 @@ abbrev pub shelf_after : Command → Image → Shelved → Shelved
 shelf_after (Run file script name steps) image old = record old { files = written old.files name (spelling image) }
 shelf_after (Exec name script steps) image old = old
 
--- the words are the command, and the files hold its image and its inputs
+-- the words are the command, and the files hold its image, which keeps the rules of images, and its inputs
 pub record IsReady (words : List (List ℕ)) (old : Shelved) (command : Command) (image : Image) (inputs : List ScriptLine) : Type 0 where
   pub reads : Reads words command
   pub gives : GivesImage old command image
+  pub rules : IsImage image
   pub script : TakesScript old (script_name command) image.ports inputs
 
 -- the machine stands at the start of the run that the words ask for

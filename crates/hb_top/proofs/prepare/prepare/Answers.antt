@@ -10,4 +10,4 @@ returns g c =
     let read = shelved (shelf.files c.find_script.new.shelf) (shelf.read_faults c.find_script.new.shelf) (shelf.write_faults c.find_script.new.shelf) in
     let new = shelved (shelf.files c.finish.new.shelf) (shelf.read_faults c.finish.new.shelf) (shelf.write_faults c.finish.new.shelf) in
     loads c.args.words.now old found read new c.in_ok-command.command c.in_ok-image.image c.in_ok-script.script.lines c.in_ok-machine.machine c.steps_of-steps.result
-    c.in_ok-command.ensures c.in_ok-image.ensures.1 c.in_ok-image.ensures.2 c.in_ok-script.ensures.1 c.in_ok-script.ensures.2 c.in_ok-machine.ensures.0 c.in_ok-machine.ensures.1 c.steps_of-steps.ensures
+    c.in_ok-command.ensures c.in_ok-image.ensures.0 c.in_ok-image.ensures.1 c.in_ok-image.ensures.2 c.in_ok-script.ensures.1 c.in_ok-script.ensures.2 c.in_ok-machine.ensures.0 c.in_ok-machine.ensures.1 c.steps_of-steps.ensures
