@@ -1,6 +1,7 @@
 //! The instructions of RV32I, each with its least, greatest and sign-changing operands, as the ISA says what they do.
 //!
-//! The words are those of a standard assembler. In the comments offsets and immediates are decimal, addresses hexadecimal.
+//! The words are those of a standard assembler. In the comments, offsets and immediates are decimal, and addresses are
+//! hexadecimal.
 
 use crate::seen::{Seen, exec, image_of, setting};
 use std::alloc::Global;
