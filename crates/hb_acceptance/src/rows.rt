@@ -139,6 +139,7 @@ fn words_that_are_no_command_are_refused(rt: HostRuntime) {
         b"walk a.hb a.script a.img".as_slice(),
         b"run --map a.script a.img".as_slice(),
         b"run a.hb a.script -x".as_slice(),
+        b"exec a.img a.script --steps 1 --steps 1".as_slice(),
         b"run a.hb a.script \xFF".as_slice(),
     ];
     for line in lines {
@@ -329,4 +330,18 @@ fn each_damaged_byte_of_an_image_has_its_answer(rt: HostRuntime) {
         let seen = exec(&rt, rt.alloc(), EXEC, &image, b"");
         assert_eq!(rt; seen.text.as_slice(), answers[place]);
     }
+}
+
+#[test]
+fn a_script_of_one_byte_too_many_is_refused_as_a_whole(rt: HostRuntime) -> Result<(), Fail> {
+    let alloc = rt.alloc();
+    let mut script = Vec::new(alloc);
+    for _ in 0..1_048_577 {
+        script.push(b'\n')?;
+    }
+    let seen = run_on(&rt, alloc, ECHO, script.as_slice());
+    assert_eq!(rt; seen.status, 3);
+    assert_eq!(rt; seen.text.as_slice(), b"script refused 0\n".as_slice());
+    assert_eq!(rt; seen.image, None);
+    Ok(())
 }
