@@ -2,8 +2,9 @@
 use Rattle.std.proofs.Common.{◌≡◌, ℕ, ◌<◌, List, [], ◌∷◌, ◌++◌, length, get_or, sym, refl, ap, ◌∙◌, subst, arith, ⊎_elim, length-append}
 use Rattle.hb_types.specs.declared.node.Node.{Node}
 use Rattle.hb_types.specs.declared.node.Node.TheVariants.{Free}
+use Rattle.hb_types.specs.declared.node.Atom.TheVariants as atom
 use Rattle.hb_types.specs.declared.types.Ty.{Ty, Unknown}
-use Rattle.hb_types.specs.Finite.{Finite}
+use Rattle.hb_types.specs.Finite.{Finite, Single}
 use Rattle.hb_types.specs.Instance.{instance}
 use Rattle.hb_types.specs.Joined.{pair}
 use Rattle.hb_types.specs.Graph.{Obeys, Unified, IsImpossible}
@@ -41,6 +42,7 @@ taken heads old mid big new a b left right h la lb u solved = record {
   sound = record {
     graph = u.graph;
     inside = λ n lt. let inside : get_or heads n 0 < length old = h n lt in omega (arith, inside, la.grown.longer, lb.grown.longer, u.size);
+    solution = solved;
   };
   same = λ s. (
     λ solves.
@@ -111,3 +113,10 @@ pub fresh-of : (state : Equations) (heads new_heads : List ℕ) (nodes new_nodes
 fresh-of state heads new_heads nodes new_nodes number place e g p q h k =
     let heads_are : new_heads ≡ heads ++ length nodes ∷ [] = h ∙ ap (λ (j : ℕ). heads ++ j ∷ []) q in
     subst (λ (st : Equations). IsFresh st (equations new_heads new_nodes) (Unknown number)) e (rw (heads_are, k, p) (fresh-one heads nodes g))
+
+pub sound-none : (heads : List ℕ) (nodes : List Node) → heads ≡ [] → nodes ≡ [] → IsSound (equations heads nodes)
+sound-none heads nodes e f = rw (e, f) (record {
+  graph = record { inside = λ k. tt };
+  inside = λ n lt. absurd (omega (arith, lt));
+  solution = ((λ k. Single (atom.Nat 0)), record { each = λ k. tt });
+})

@@ -10,20 +10,14 @@ use Rattle.hb_types.specs.declared.order.Mark.TheVariants.{New, Open, Done}
 use Rattle.hb_types.specs.Finite.{Finite, Single, Applied}
 use Rattle.hb_types.specs.Joined.{at}
 use Rattle.hb_types.specs.Graph.{Says, Within, Obeys, IsGraph}
-use Rattle.hb_types.specs.Order.{marked, unless_done, first_undone, size, Falls, AllFall, Member, Ready, Settled, Walked, Touched}
+use Rattle.hb_types.specs.Order.{marked, unless_done, first_undone, size, IsPart, Falls, AllFall, Member, Ready, Settled, Walked, Touched}
 use Rattle.hb_types.proofs.LoadLemmas.{value, value-says, with_at, with_at-same, with_at-other}
 
-marked_here : (marks : List Mark) (node : ℕ) (m : Mark) → node < length marks → marked (set marks node m) node ≡ m
+pub marked_here : (marks : List Mark) (node : ℕ) (m : Mark) → node < length marks → marked (set marks node m) node ≡ m
 marked_here marks node m h = get_or-set_same marks node m New h
 
-marked_other : (marks : List Mark) (node : ℕ) (m : Mark) (k : ℕ) → k ≢ node → marked (set marks node m) k ≡ marked marks k
+pub marked_other : (marks : List Mark) (node : ℕ) (m : Mark) (k : ℕ) → k ≢ node → marked (set marks node m) k ≡ marked marks k
 marked_other marks node m k n = get_or-set_other marks node k m New n
-
-IsPart : ℕ → Node → Type 0
-IsPart p Free = ⊥
-IsPart p (Link j) = p ≡ j
-IsPart p (Leaf a) = ⊥
-IsPart p (Apply f x) = (p ≡ f) ⊎ (p ≡ x)
 
 unless-none : (m : Mark) (p : ℕ) (rest : Option ℕ) → unless_done m p rest ≡ None → (m ≡ Done) × (rest ≡ None)
 unless-none New p rest e = absurd (cc)
@@ -47,7 +41,6 @@ no-rest : (q : ℕ) → Path (Option ℕ) None (Some q) → ⊥
 no-rest q e = cc
 
 first-some : (marks : List Mark) (n : Node) (p : ℕ) → first_undone marks n ≡ Some p → IsPart p n × (marked marks p ≡ Done → ⊥)
-unfolding IsPart
 first-some marks Free p e = absurd (no-rest p e)
 first-some marks (Link j) p e =
     ⊎_elim
@@ -64,15 +57,13 @@ first-some marks (Apply f x) p e =
     (unless-some (marked marks x) x p None r))
     (unless-some (marked marks f) f p (unless_done (marked marks x) x None) e)
 
-part-inside : (many k p : ℕ) (n : Node) → k < many → Within many k n → IsPart p n → p < many
-unfolding IsPart
+pub part-inside : (many k p : ℕ) (n : Node) → k < many → Within many k n → IsPart p n → p < many
 part-inside many k p Free h w i = absurd i
 part-inside many k p (Link j) h w i = omega arith
 part-inside many k p (Leaf a) h w i = absurd i
 part-inside many k p (Apply f x) h w i = ⊎_elim (λ e. omega (arith, w.0, e)) (λ e. omega (arith, w.1, e)) i
 
-part-falls : (v : ℕ → Finite) (many k p : ℕ) (n : Node) → Within many k n → Says v (v k) n → IsPart p n → Falls v k p
-unfolding IsPart
+pub part-falls : (v : ℕ → Finite) (many k p : ℕ) (n : Node) → Within many k n → Says v (v k) n → IsPart p n → Falls v k p
 part-falls v many k p Free w s i = absurd i
 part-falls v many k p (Link j) w s i = inr (ap (λ (q : ℕ). size (v q)) i ∙ ap size (sym s), omega (arith, i))
 part-falls v many k p (Leaf a) w s i = absurd i

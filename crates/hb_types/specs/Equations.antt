@@ -26,6 +26,7 @@ Solves s e = (v : ℕ → Finite) × Obeys v e.nodes × Follows s v e.heads
 pub record IsSound (e : Equations) : Type 0 where
   pub graph : IsGraph e.nodes
   pub inside : AreHeads (length e.nodes) e.heads
+  pub solution : (v : ℕ → Finite) × Obeys v e.nodes
 
 -- one more unknown, of which nothing is known
 pub record IsFresh (old new : Equations) (t : Ty) : Type 0 where

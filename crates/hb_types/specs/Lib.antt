@@ -1,5 +1,6 @@
 pub mod Equations
 pub mod Finite
+pub mod Full
 pub mod Graph
 pub mod Instance
 pub mod Joined

@@ -23,6 +23,13 @@ first_undone marks (Link j) = unless_done (marked marks j) j None
 first_undone marks (Leaf a) = None
 first_undone marks (Apply f x) = unless_done (marked marks f) f (unless_done (marked marks x) x None)
 
+-- the nodes that a node speaks of
+abbrev pub IsPart : ℕ → Node → Type 0
+IsPart p Free = ⊥
+IsPart p (Link j) = p ≡ j
+IsPart p (Leaf a) = ⊥
+IsPart p (Apply f x) = (p ≡ f) ⊎ (p ≡ x)
+
 abbrev pub size : Finite → ℕ
 size (Single a) = 1
 size (Applied f x) = size f + size x + 1

@@ -7,7 +7,7 @@ use crate::node::{Node, Pair, join, node_at, push_parts};
 use hb_base::Memory;
 
 /// The node where links from this one end.
-fn root(nodes: &[Node], from: usize) -> usize
+pub fn root(nodes: &[Node], from: usize) -> usize
     requires within { from < length nodes.now }
     requires graph { IsGraph nodes.now }
     ensures within { result < length nodes.now }

@@ -2,6 +2,7 @@
 #![tactic(auto)]
 
 mod error;
+mod full;
 mod graph;
 mod load;
 mod middle;

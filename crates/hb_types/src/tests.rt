@@ -83,3 +83,40 @@ fn tops_of_two_towers_are_equated(rt: HostRuntime) -> Result<(), Fail> {
     assert!(rt; !takes(&mut all, &Ty::Unknown(41), &Ty::Con(2)));
     Ok(())
 }
+
+/// The pair of an unknown with a number.
+fn with_number(alloc: Global, number: u64) -> Result<Ty, Memory>
+    ensures { IfOk result (λ t. (count : ℕ) → number < count → HasUnknownsBelow count t) }
+{
+    let half = Ty::apply(alloc, Ty::Con(0), Ty::Unknown(number))?;
+    let whole = Ty::apply(alloc, half, Ty::Nat(5))?;
+    Ok(whole)
+}
+
+/// Whether the type is the pair of the constructor 2 with the number 5.
+fn is_found(t: &Ty) -> bool {
+    match t {
+        Ty::Apply(half, second) => match half.get() {
+            Ty::Apply(_, first) => {
+                matches!(first.get(), Ty::Con(2)) && matches!(second.get(), Ty::Nat(5))
+            }
+            _ => false,
+        },
+        _ => false,
+    }
+}
+
+#[test]
+fn forced_unknowns_are_replaced_and_others_stay(rt: HostRuntime) -> Result<(), Fail> {
+    let mut all = unknowns(rt.alloc(), 3)?;
+    let whole = with_number(rt.alloc(), 1)?;
+    assert!(rt; takes(&mut all, &Ty::Unknown(0), &whole));
+    let before = all.full(rt.alloc(), &Ty::Unknown(0))?;
+    assert!(rt; matches!(before, Ty::Unknown(0)));
+    assert!(rt; takes(&mut all, &Ty::Unknown(1), &Ty::Con(2)));
+    let after = all.full(rt.alloc(), &Ty::Unknown(0))?;
+    assert!(rt; is_found(&after));
+    let free = all.full(rt.alloc(), &Ty::Unknown(2))?;
+    assert!(rt; matches!(free, Ty::Unknown(2)));
+    Ok(())
+}

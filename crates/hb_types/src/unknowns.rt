@@ -3,9 +3,11 @@ ghost use Rattle.hb_types.specs.Finite.{Finite};
 ghost use Rattle.hb_types.specs.Instance.{HasUnknownsBelow};
 ghost use Rattle.hb_types.specs.Graph.{IsGraph};
 ghost use Rattle.hb_types.specs.Load.{AreHeads};
+ghost use Rattle.hb_types.specs.Full.{EachUnknown, IsSame, IsUnforced, Replaced};
 ghost use Rattle.hb_types.specs.Equations.{unknown_count, Solves, IsFresh, IsEquated, HasNoSolution, OnClash, equations, IsTaken};
 
 use crate::error::EquateError;
+use crate::full::replace;
 use crate::graph::unify;
 use crate::load::load;
 use crate::node::{Node, Pair};
@@ -109,5 +111,16 @@ impl Unknowns {
             Ok(None) => Err(EquateError::Clash),
             Err(_) => Err(EquateError::Memory),
         }
+    }
+    /// The type with each unknown that the equations force to a type without unknowns replaced by that type. Every
+    /// other unknown stays. Each unknown in the type is one that `fresh` gave.
+    pub fn full(&self, alloc: Global, t: &Ty) -> Result<Ty, Memory>
+        requires known { HasUnknownsBelow (unknown_count self.now) t.now }
+        ensures replaced { IfOk result (λ r. Replaced self.now t.now r) }
+        ensures same { IfOk result (λ r. IsSame self.now t.now r) }
+        ensures unforced { IfOk result (λ r. EachUnknown (IsUnforced self.now) r) }
+    {
+        let full = replace(alloc, &self.heads, &self.nodes, t)?;
+        Ok(full)
     }
 }
