@@ -18,16 +18,21 @@ use Rattle.hb_words.specs.Words.{Reads, command_of}
 use Rattle.hb_words.specs.declared.words.Command.{Command}
 use Rattle.hb_words.specs.declared.words.Command.TheVariants.{Run}
 use Rattle.hb_top.specs.Preparing.{GivesImage, TakesScript, script_name, steps_of, shelf_after}
-use Rattle.hb_top.specs.Texts.{text_from, text_of}
+use Rattle.hb_top.specs.Texts.{text_from, text_of, stop_after, status_of}
 use Rattle.hb_top.specs.World.{World}
 use Rattle.hb_top.specs.Executing.{Puts}
 use Rattle.hb_top.specs.Answers.{Answers, ran, source_refused, words_refused, script_refused, read_fault, fault, image_refused, no_memory, Runs}
+use Rattle.hb_top.proofs.Ends.{says_ends, which}
 use Rattle.hb_top.specs.Headline.{text_said, TellsSource, is_run_status}
 
 -- the text of a run is that of what it shows
 text_is : (image : Image) (inputs : List ScriptLine) (steps : ℕ) → text_of image inputs steps ≡ lines_of image.ports (mach image inputs steps).trace ++ end_of image.ports (stop_of (mach image inputs steps).end) (steps_done image inputs steps)
 unfolding text_of text_from mach steps_done start
 text_is image inputs steps = refl
+
+stop_is : (image : Image) (inputs : List ScriptLine) (steps : ℕ) → stop_after (start image inputs) steps ≡ stop_of (mach image inputs steps).end
+unfolding mach start
+stop_is image inputs steps = refl
 
 -- where the machine shows what the source says after some count, its text is the one that is said
 same_text : (source : Source) (image : Image) (inputs : List ScriptLine) (steps count : ℕ) → image.ports ≡ source.ports → mach image inputs steps ≡ says source inputs count → text_of image inputs steps ≡ text_said source inputs count (steps_done image inputs steps)
@@ -44,11 +49,12 @@ one_command words a b ra rb = ap (λ (o : Option Command). unwrap_or o a) (sym r
 no_run : (status other : ℕ) → status ≡ other → IsTrue (is_run_status status) → IsTrue (is_run_status other)
 no_run status other e = subst (λ s. IsTrue (is_run_status s)) e
 
-headline : (words : List (List ℕ)) (status : ℕ) (old new : World) (runs : Runs words status old new) (file script name : List ℕ) (steps : ℕ) → runs.command ≡ Run file script name steps → TellsSource file script name steps old new
+headline : (words : List (List ℕ)) (status : ℕ) (old new : World) (runs : Runs words status old new) (file script name : List ℕ) (steps : ℕ) → runs.command ≡ Run file script name steps → TellsSource file script name steps status old new
 headline words status old new runs file script name steps e =
     let gives = subst (λ command. GivesImage old.shelf command runs.image) e runs.ready.gives in
     let given = subst (λ command. TakesScript old.shelf (script_name command) runs.image.ports runs.inputs) e runs.ready.script in
-    let same = (gives.means.runs runs.inputs runs.ready.script.fit).each_target_count steps in record {
+    let same = (gives.means.runs runs.inputs runs.ready.script.fit).each_target_count steps in
+    let stands = runs.status_is ∙ ap (λ command. status_of (stop_after (start runs.image runs.inputs) (steps_of command))) e ∙ ap status_of (stop_is runs.image runs.inputs steps) ∙ ap (λ (o : Outcome Step Stop). status_of (stop_of o.end)) same.1 in record {
       source = gives.source;
       takes = gives.takes;
       inputs = runs.inputs;
@@ -61,10 +67,12 @@ headline words status old new runs file script name steps e =
           subst (λ text. Puts text old.sink new.sink)
           (ap (λ command. text_of runs.image runs.inputs (steps_of command)) e ∙ same_text gives.source runs.image runs.inputs steps same.0 gives.means.ports same.1)
           runs.told;
+      status_is = stands;
+      ends = which (says gives.source runs.inputs same.0).end (says_ends gives.source runs.inputs same.0) status stands;
     }
 
 -- where the status is one of a run, and the words are a command to compile
-pub told_of : (words : List (List ℕ)) (status : ℕ) (old new : World) → Answers words status old new → (file script name : List ℕ) (steps : ℕ) → Reads words (Run file script name steps) → IsTrue (is_run_status status) → TellsSource file script name steps old new
+pub told_of : (words : List (List ℕ)) (status : ℕ) (old new : World) → Answers words status old new → (file script name : List ℕ) (steps : ℕ) → Reads words (Run file script name steps) → IsTrue (is_run_status status) → TellsSource file script name steps status old new
 told_of words status old new (ran runs) file script name steps reads run =
     headline words status old new runs file script name steps (one_command words runs.command (Run file script name steps) runs.ready.reads reads)
 told_of words status old new (source_refused e refusal reports) file script name steps reads run = absurd (false≢true (no_run status 1 e run))

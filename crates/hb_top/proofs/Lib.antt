@@ -2,3 +2,4 @@ pub mod PreparingLaws
 pub mod ExecuteLaws
 pub mod Composition
 pub mod Headline
+pub mod Ends

@@ -29,7 +29,7 @@ pub fn habit<F: Shelf, O: Sink>(
         (world (shelved (F.files shelf.old) (F.read_faults shelf.old) (F.write_faults shelf.old)) (printed (O.taken out.old) (O.faults out.old)))
         (world (shelved (F.files shelf.new) (F.read_faults shelf.new) (F.write_faults shelf.new)) (printed (O.taken out.new) (O.faults out.new))) }
     // A run of a compiled source tells what the source says, and the image that means it was written.
-    ensures headline { (file script name : List ℕ) (steps : ℕ) → Reads words.now (Run file script name steps) → IsTrue (is_run_status result) → TellsSource file script name steps
+    ensures headline { (file script name : List ℕ) (steps : ℕ) → Reads words.now (Run file script name steps) → IsTrue (is_run_status result) → TellsSource file script name steps result
         (world (shelved (F.files shelf.old) (F.read_faults shelf.old) (F.write_faults shelf.old)) (printed (O.taken out.old) (O.faults out.old)))
         (world (shelved (F.files shelf.new) (F.read_faults shelf.new) (F.write_faults shelf.new)) (printed (O.taken out.new) (O.faults out.new))) }
 {
