@@ -1,20 +1,19 @@
 -- A run of a compiled source tells what the source says.
-use Rattle.std.proofs.Common.{◌≡◌, ℕ, List, ◌++◌, Option, Some, refl, sym, ap, subst, ◌∙◌}
+use Rattle.std.proofs.Common.{◌≡◌, ℕ, List, ◌++◌, Option, refl, sym, ap, subst, ◌∙◌}
 use Rattle.std.specs.Prelude.{IsTrue, unwrap_or}
 use Rattle.std.proofs.lemmas.Bool.{false≢true}
 use Rattle.hb_base.specs.declared.script.ScriptLine.{ScriptLine}
 use Rattle.hb_base.specs.declared.step.Step.{Step}
 use Rattle.hb_base.specs.declared.step.Stop.{Stop}
-use Rattle.hb_compile.specs.Means.{Means}
 use Rattle.hb_image.specs.declared.image.Image.{Image}
 use Rattle.hb_mach.specs.State.{start}
-use Rattle.hb_mach.specs.Run.{mach, stop_of, steps_done, shown}
+use Rattle.hb_mach.specs.Run.{mach, stop_of, steps_done}
 use Rattle.hb_runs.specs.Outcome.{Outcome}
 use Rattle.hb_script.specs.Ends.{end_of}
 use Rattle.hb_script.specs.Lines.{lines_of}
 use Rattle.hb_second.specs.declared.source.Source.{Source}
 use Rattle.hb_second.specs.Meaning.{says}
-use Rattle.hb_words.specs.Words.{Reads, command_of}
+use Rattle.hb_words.specs.Words.{Reads}
 use Rattle.hb_words.specs.declared.words.Command.{Command}
 use Rattle.hb_words.specs.declared.words.Command.TheVariants.{Run}
 use Rattle.hb_top.specs.Preparing.{GivesImage, TakesScript, script_name, steps_of, shelf_after}

@@ -1,5 +1,5 @@
 -- What a run of a compiled source tells, in the words of the source alone.
-use Rattle.std.specs.Prelude.{◌≡◌, ◌⊎◌, ℕ, List, ◌++◌, Bool, ◌||◌, ◌==◌, IsTrue}
+use Rattle.std.specs.Prelude.{◌≡◌, ◌⊎◌, ℕ, List, ◌++◌, Bool, ◌||◌, ◌==◌}
 use Rattle.hb_base.specs.declared.script.ScriptLine.{ScriptLine}
 use Rattle.hb_compile.specs.Means.{Means}
 use Rattle.hb_image.specs.declared.image.Image.{Image}
