@@ -1,3 +1,5 @@
+pub mod Whole
+pub mod FindingLaws
 pub mod PreparingLaws
 pub mod ExecuteLaws
 pub mod Composition

@@ -1,6 +1,7 @@
 -- What comes before a run: the words, the image, which is compiled or read, the script, and the file that is written.
 -- Only files are touched.
-use Rattle.std.specs.Prelude.{◌≡◌, ℕ, List, Ok, Err}
+use Rattle.std.specs.FinMap as map
+use Rattle.std.specs.Prelude.{◌≡◌, ℕ, List, Ok, Err, Option, None, Some}
 use Rattle.hb_base.specs.declared.port.Port.{Port}
 use Rattle.hb_base.specs.declared.script.ScriptLine.{ScriptLine}
 use Rattle.hb_base.specs.Inputs.{AreInputs}
@@ -11,7 +12,7 @@ use Rattle.hb_image.specs.Format.{spelling}
 use Rattle.hb_image.specs.Reading.{image_of}
 use Rattle.hb_image.specs.declared.fault.ImageError.TheVariants as errors
 use Rattle.hb_io.specs.Counts.{Rose}
-use Rattle.hb_io.specs.Files.{written, without, HoldsFront}
+use Rattle.hb_io.specs.Files.{Files, written, without, HoldsFront}
 use Rattle.hb_mach.specs.State.{State, start}
 use Rattle.hb_script.specs.Scripts.{script_of}
 use Rattle.hb_second.specs.declared.source.Source.{Source}
@@ -36,10 +37,15 @@ most_of_image = 536823573
 
 -- ---- what files hold
 
--- a source that was read from the file of this name, and accepted
+-- the file of this name holds just these bytes, where the shelf tells its files
+abbrev pub Holds : Option Files → List ℕ → List ℕ → Type 0
+Holds None name bytes = Unit {0}
+Holds (Some files) name bytes = map.get files name ≡ Some bytes
+
+-- the source that the file of this name holds
 pub record TakesSource (old : Shelved) (file : List ℕ) (source : Source) : Type 0 where
   pub bytes : List ℕ
-  pub got : HoldsFront old.files file most_read bytes
+  pub holds : Holds old.files file bytes
   pub accepted : Accepts bytes source
 
 -- an image that means the source in the file of this name
@@ -48,20 +54,18 @@ pub record Compiled (old : Shelved) (file : List ℕ) (image : Image) : Type 0 w
   pub takes : TakesSource old file source
   pub means : Means source image
 
--- the image that the file of this name spells
-pub record TakesImage (old : Shelved) (name : List ℕ) (image : Image) : Type 0 where
-  pub bytes : List ℕ
-  pub got : HoldsFront old.files name most_of_image bytes
-  pub spelled : bytes ≡ spelling image
+-- the file of this name holds the bytes of the image
+abbrev pub TakesImage : Shelved → List ℕ → Image → Type 0
+TakesImage old name image = Holds old.files name (spelling image)
 
 -- the inputs that the file of this name spells; each is one of an In port, and has its width
 pub record TakesScript (old : Shelved) (name : List ℕ) (ports : List Port) (inputs : List ScriptLine) : Type 0 where
   pub bytes : List ℕ
-  pub got : HoldsFront old.files name most_read bytes
+  pub holds : Holds old.files name bytes
   pub spelled : script_of ports bytes ≡ Ok inputs
   pub fit : AreInputs ports inputs
 
--- the file of this name holds no source
+-- the first bytes of the file of this name are no source
 pub record HoldsNoSource (old : Shelved) (file : List ℕ) (refusal : Refusal) : Type 0 where
   pub bytes : List ℕ
   pub got : HoldsFront old.files file most_read bytes
