@@ -1,8 +1,12 @@
 //! The program: the top call over real files and standard output.
 #![tactic(auto)]
 
+ghost use Rattle.std.specs.Prelude.{◌≡◌};
+ghost use Rattle.hb_top.specs.World.{shelved, printed, world};
+ghost use Rattle.habit.specs.Answering.{AnswersFor};
+
 use hb_base::{List, Memory, Text};
-use hb_io::{DirShelf, StdSink};
+use hb_io::{DirShelf, Shelf, Sink, StdSink};
 use hb_top::habit;
 use std::alloc::Global;
 use std::env::{Env, FillError};
@@ -33,12 +37,27 @@ fn words(alloc: Global, rt: &impl Env) -> Result<List<Text>, Memory> {
     Ok(words)
 }
 
+/// The status of the top call, or that of no memory for the words.
+fn answer<F: Shelf, O: Sink>(
+    alloc: Global,
+    words: Result<List<Text>, Memory>,
+    shelf: &mut F,
+    out: &mut O,
+) -> u8
+    ensures { AnswersFor words result
+        (world (shelved (F.files shelf.old) (F.read_faults shelf.old) (F.write_faults shelf.old)) (printed (O.taken out.old) (O.faults out.old)))
+        (world (shelved (F.files shelf.new) (F.read_faults shelf.new) (F.write_faults shelf.new)) (printed (O.taken out.new) (O.faults out.new))) }
+{
+    match words {
+        Ok(words) => habit(alloc, &words, shelf, out),
+        Err(Memory) => NO_MEMORY,
+    }
+}
+
 fn main(rt: HostRuntime) -> ExitCode {
     let alloc = rt.alloc();
-    let Ok(words) = words(alloc, &rt) else {
-        return ExitCode::from(NO_MEMORY);
-    };
+    let words = words(alloc, &rt);
     let mut shelf = DirShelf::new(&rt);
     let mut out = StdSink::new(&rt);
-    ExitCode::from(habit(alloc, &words, &mut shelf, &mut out))
+    ExitCode::from(answer(alloc, words, &mut shelf, &mut out))
 }
