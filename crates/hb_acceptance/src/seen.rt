@@ -18,7 +18,10 @@ fn words_of(rt: &impl Abort, alloc: Global, line: &[u8]) -> List<Text> {
     let mut words = List::of(Vec::new(alloc));
     for word in line.split(|byte| *byte == b' ') {
         if !word.is_empty() {
-            let text = Text::of(Vec::from_slice(alloc, word).expect(rt, "memory"));
+            let mut text = Text::of(Vec::new(alloc));
+            for byte in word {
+                text.push(*byte).expect(rt, "memory");
+            }
             words.push(text).expect(rt, "memory");
         }
     }
@@ -81,7 +84,7 @@ pub fn run_on(rt: &impl Abort, alloc: Global, source: &[u8], script: &[u8]) -> S
 
 /// Runs `a.hb` on an empty script.
 pub fn run(rt: &impl Abort, alloc: Global, source: &[u8]) -> Seen {
-    call(rt, alloc, b"run a.hb a.script a.img", source, b"", &[], &[])
+    run_on(rt, alloc, source, b"")
 }
 
 /// The bytes of an image before its number of words: no ports, areas of 4,096 bytes, and a stack of 4,096 bytes.
