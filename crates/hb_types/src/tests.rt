@@ -116,6 +116,8 @@ fn forced_unknowns_are_replaced_and_others_stay(rt: HostRuntime) -> Result<(), F
     assert!(rt; takes(&mut all, &Ty::Unknown(1), &Ty::Con(2)));
     let after = all.full(rt.alloc(), &Ty::Unknown(0))?;
     assert!(rt; is_found(&after));
+    let copy = after.copy(rt.alloc())?;
+    assert!(rt; is_found(&copy));
     let free = all.full(rt.alloc(), &Ty::Unknown(2))?;
     assert!(rt; matches!(free, Ty::Unknown(2)));
     Ok(())
