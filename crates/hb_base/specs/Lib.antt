@@ -2,3 +2,4 @@ pub mod formers
 pub mod PortName
 pub mod Ports
 pub mod Inputs
+pub mod Names
