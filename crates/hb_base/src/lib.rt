@@ -1,6 +1,7 @@
 //! The plain types that every other crate speaks of: lists, texts, places, ports and the lines of a run.
 #![tactic(auto)]
 
+pub mod fixed;
 pub mod limits;
 mod list;
 mod memory;
@@ -23,3 +24,6 @@ pub use refusal::{Code, Fault, Refusal};
 pub use script::{Script, ScriptLine};
 pub use step::{Step, Stop};
 pub use text::Text;
+
+#[cfg(test)]
+mod tests;

@@ -9,7 +9,8 @@ use Rattle.hb_asm.specs.declared.part.Asm.{Asm}
 use Rattle.hb_image.specs.declared.image.Image.{Image}
 use Rattle.hb_image.specs.Rules.{IsImage}
 use Rattle.hb_mach.specs.Run.{mach}
-use Rattle.hb_runs.specs.Outcome.{Outcome, SameRuns}
+use Rattle.hb_runs.specs.Outcome.{SameRuns}
+use Rattle.hb_runs.proofs.Through.{through}
 use Rattle.hb_flat.specs.declared.form.FlatBlock.{FlatBlock}
 use Rattle.hb_flat.specs.declared.form.Flat.{Flat}
 use Rattle.hb_flat.specs.Meaning.{runs}
@@ -20,19 +21,6 @@ use Rattle.hb_select.specs.Code.{parts_of, words_of}
 use Rattle.hb_select.specs.Law.{IsImageOf, KeepsLaw}
 use Rattle.hb_compile.specs.Means.{Means}
 use Rattle.hb_compile.proofs.Length.{words_short}
-
--- what shows the same as a third shows the same
-pub through : {E S : Type 0} (first second third : ℕ → Outcome E S) → SameRuns first second → SameRuns second third → SameRuns first third
-through first second third upper lower = record {
-  each_source_count = λ n.
-      let above = upper.each_source_count n in
-      let below = lower.each_source_count above.0 in
-      (below.0, below.1 ∙ above.1);
-  each_target_count = λ m.
-      let below = lower.each_target_count m in
-      let above = upper.each_target_count below.0 in
-      (above.0, below.1 ∙ above.1);
-}
 
 -- an image of a source by way of a flat program and its instructions
 pub record Made (source : Source) (flat : Flat) (asm : Asm) (image : Image) : Type 0 where

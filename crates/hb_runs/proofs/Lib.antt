@@ -1,2 +1,4 @@
 pub mod Growth
 pub mod Stepping
+pub mod Between
+pub mod Through

@@ -5,7 +5,6 @@ pub mod Places
 pub mod Loads
 pub mod Meetings
 pub mod Turns
-pub mod Between
 pub mod Simulation
 pub mod Selects
 pub mod PartsLaws

@@ -18,7 +18,7 @@ use Rattle.hb_flat.specs.declared.form.FlatTail.{FlatTail}
 use Rattle.hb_flat.specs.declared.form.FlatTail.TheVariants.{Done}
 use Rattle.hb_flat.proofs.Growth.{shown-grows as told-grows}
 use Rattle.hb_mach.proofs.RunLaws.{shown-suc}
-use Rattle.hb_select.proofs.Between.{between}
+use Rattle.hb_runs.proofs.Between.{between}
 
 -- so many instructions show this, and no fewer than this count do too
 pub record Shows (count weight : ℕ) (outcome : Outcome Step Stop) (s : State) : Type 0 where

@@ -1,7 +1,8 @@
 ghost use Rattle.std.specs.Prelude.{◌≡◌, [], ◌∷◌, ◌++◌, map, OnOk};
+ghost use Rattle.hb_asm.specs.declared.instr.Instr.TheVariants.{Lui};
 ghost use Rattle.hb_asm.specs.declared.part.AsmPart.TheVariants.{Instr as part};
 ghost use Rattle.hb_flat.specs.declared.form.FlatStep.TheVariants.{Set, Alu, Load, Store};
-ghost use Rattle.hb_select.specs.Code.{load_of, operand_code, put_code, step_code, store_of, tail_code};
+ghost use Rattle.hb_select.specs.Code.{upper_part, load_of, operand_code, put_code, step_code, store_of, tail_code};
 
 use crate::splitting::{address_of, lower_part, upper_part};
 use hb_asm::{AluOp, AsmPart, Instr, LoadOp, StoreOp};
@@ -28,19 +29,23 @@ fn push(parts: &mut List<AsmPart>, instr: Instr) -> Result<(), Memory>
     Ok(())
 }
 
+/// Sets a register to the upper part of a number.
+fn upper(register: u8, number: u32) -> Instr
+    ensures { result ≡ Lui register (upper_part number) }
+{
+    Instr::Lui {
+        rd: register,
+        imm: upper_part(number),
+    }
+}
+
 /// Puts the code that leaves an operand in a register.
 fn push_operand(parts: &mut List<AsmPart>, register: u8, operand: Operand) -> Result<(), Memory>
     ensures { OnOk result (parts.new ≡ parts.old ++ map part (operand_code register operand)) }
 {
     match operand {
         Operand::Number(number) => {
-            push(
-                parts,
-                Instr::Lui {
-                    rd: register,
-                    imm: upper_part(number),
-                },
-            )?;
+            push(parts, upper(register, number))?;
             push(
                 parts,
                 Instr::OpImm {
@@ -54,13 +59,7 @@ fn push_operand(parts: &mut List<AsmPart>, register: u8, operand: Operand) -> Re
         }
         Operand::Word(word) => {
             let address = address_of(word);
-            push(
-                parts,
-                Instr::Lui {
-                    rd: register,
-                    imm: upper_part(address),
-                },
-            )?;
+            push(parts, upper(register, address))?;
             push(
                 parts,
                 Instr::Load {
