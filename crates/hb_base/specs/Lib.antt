@@ -3,3 +3,4 @@ pub mod PortName
 pub mod Ports
 pub mod Inputs
 pub mod Names
+pub mod Fixed
