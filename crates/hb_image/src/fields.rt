@@ -5,13 +5,7 @@ ghost use Rattle.std.specs.Int.{w16, w32};
 ghost use Rattle.hb_image.specs.Reading.{Gives, bytes_at, byte_at, number_at, magic_at, version_at, count_at, areas_at, stack_at, code_at, kind_at, width_at, length_at};
 
 use crate::fault::{Field, ImageError};
-use hb_base::Dir;
-
-const MOST_BYTES: u32 = 16_777_216;
-
-const LEAST_STACK: u32 = 4_096;
-
-const MOST_WORDS: u32 = 134_201_344;
+use hb_base::{Dir, limits};
 
 pub fn bytes_of(bytes: &[u8], count: usize) -> Result<(&[u8], &[u8]), ImageError>
     ensures { Gives (λ x. (x.0.now, x.1.now)) result (bytes_at count bytes.now) }
@@ -84,7 +78,7 @@ pub fn areas_of(bytes: &[u8]) -> Result<(u32, &[u8]), ImageError>
     ensures { Gives (λ x. (x.0, x.1.now)) result (areas_at bytes.now) }
 {
     let (areas, rest) = u32_of(bytes)?;
-    if areas > MOST_BYTES {
+    if areas > limits::AREA_BYTES {
         return Err(ImageError::Bad(Field::Areas));
     }
     Ok((areas, rest))
@@ -95,7 +89,7 @@ pub fn stack_of(bytes: &[u8]) -> Result<(u32, &[u8]), ImageError>
     ensures { Gives (λ x. (x.0, x.1.now)) result (stack_at bytes.now) }
 {
     let (stack, rest) = u32_of(bytes)?;
-    if stack % 4 != 0 || stack < LEAST_STACK || stack > MOST_BYTES {
+    if stack % 4 != 0 || stack < limits::LEAST_STACK_BYTES || stack > limits::STACK_BYTES {
         return Err(ImageError::Bad(Field::Stack));
     }
     Ok((stack, rest))
@@ -106,7 +100,7 @@ pub fn code_of(bytes: &[u8]) -> Result<(u32, &[u8]), ImageError>
     ensures { Gives (λ x. (x.0, x.1.now)) result (code_at bytes.now) }
 {
     let (code, rest) = u32_of(bytes)?;
-    if code < 1 || code > MOST_WORDS {
+    if code < 1 || code > limits::CODE_WORDS {
         return Err(ImageError::Bad(Field::Code));
     }
     Ok((code, rest))

@@ -2,12 +2,10 @@ ghost use Rattle.std.specs.Prelude.{◌≡◌, ◌<◌, IfOk, MatchOption, lengt
 ghost use Rattle.hb_base.specs.Inputs.{first_value, without_first};
 ghost use Rattle.hb_mach.specs.Waiting.{NoneBetween, IsFirstFrom};
 
+use hb_base::limits::PORTS;
 use hb_base::{List, Memory, ScriptLine};
 use std::alloc::Global;
 use std::marker::Model;
-
-/// The most ports that an image has.
-const MOST_PORTS: usize = 256;
 
 /// The lines not yet taken: all lines, and for each port the place from which on its lines wait.
 #[derive(Debug, Drop)]
@@ -46,7 +44,7 @@ impl Inputs {
     pub fn of(alloc: Global, lines: List<ScriptLine>) -> Result<Inputs, Memory>
         ensures { IfOk result (λ inputs. inputs ≡ lines) }
     {
-        let cursors = vec![in alloc; 0usize; MOST_PORTS]?;
+        let cursors = vec![in alloc; 0usize; PORTS as usize]?;
         Ok(Inputs { lines, cursors })
     }
 

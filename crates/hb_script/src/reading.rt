@@ -8,17 +8,16 @@ ghost use Rattle.hb_script.specs.Scripts.{script_of, Gives};
 use crate::content::{Content, read_line};
 use crate::fault::ScriptError;
 use crate::words::first_line;
+use hb_base::limits::SCRIPT_BYTES;
 use hb_base::{List, Port, Script, ScriptLine};
 use std::alloc::Global;
-
-const MOST_BYTES: usize = 1_048_576;
 
 #[tactic(auto, unfolding(crate::specs::Scripts::script_of))]
 fn inputs_of(alloc: Global, bytes: &[u8], ports: &List<Port>) -> Result<Script, ScriptError>
     requires { ArePorts ports.now }
     ensures { Gives result (script_of ports.now bytes.now) }
 {
-    if bytes.len() > MOST_BYTES {
+    if bytes.len() > SCRIPT_BYTES as usize {
         return Err(ScriptError::Bad(0));
     }
     let mut inputs = Vec::new(alloc);

@@ -9,13 +9,11 @@ ghost use Rattle.hb_second_code.specs.Rules.{IsProgram};
 ghost use Rattle.hb_second_code.specs.Lowering.{operand_of, alu_op_of, address_of, reads, binds, write_steps, statement_steps, steps_of, flat_of};
 
 use hb_asm::AluOp;
+use hb_base::limits::STANDARD_STACK_BYTES;
 use hb_base::{List, Memory, Port};
 use hb_flat::{Flat, FlatBlock, FlatStep, FlatTail, Operand};
 use hb_second::{Argument, Atom, Operator, Source, Statement};
 use std::alloc::Global;
-
-/// The stack of a program, in bytes.
-const STACK_SIZE: u32 = 1_048_576;
 
 fn operand_of(atom: Atom) -> Operand
     ensures { result ≡ operand_of atom }
@@ -153,7 +151,7 @@ fn flat_of(alloc: Global, source: &Source) -> Result<Flat, Memory>
         blocks,
         rooms,
         entry: 0,
-        stack: STACK_SIZE,
+        stack: STANDARD_STACK_BYTES,
     })
 }
 

@@ -6,6 +6,7 @@ ghost use Rattle.hb_second_code.specs.Rules.{IsProgram};
 ghost use Rattle.hb_top.specs.Steps.{JudgesSource, JudgesImage, JudgesScript, Builds};
 
 use crate::failure::{Failure, NoImage, Refusal};
+use hb_base::limits::SOURCE_BYTES;
 use hb_base::{List as Items, Port, Script};
 use hb_compile::compile;
 use hb_image::{Image, ImageError};
@@ -13,14 +14,11 @@ use hb_script::ScriptError;
 use hb_second::{ReadError, Source, read_source};
 use std::alloc::Global;
 
-/// The most bytes of a source.
-const MOST_BYTES: usize = 1_048_576;
-
 /// The source that the bytes are.
 pub fn source_of(alloc: Global, bytes: &[u8]) -> Result<Source, Failure>
     ensures { JudgesSource bytes.now result }
 {
-    if bytes.len() > MOST_BYTES {
+    if bytes.len() > SOURCE_BYTES as usize {
         return Err(Failure::Refused(Refusal::SourceLong));
     }
     match read_source(alloc, bytes) {

@@ -5,6 +5,7 @@ ghost use Rattle.hb_words.specs.Words;
 ghost use Rattle.hb_words.specs.Words.{with_digit, number_of, kind_of, rest_of, named_command, command_of, run_of, exec_of, HasNames, Reads};
 ghost use Rattle.hb_words.specs.declared.words.Command.{Command};
 
+use hb_base::limits::STANDARD_STEPS;
 use hb_base::{List, Memory, Text};
 use std::alloc::Global;
 use std::str;
@@ -39,9 +40,6 @@ pub struct Rest {
     pub steps: Option<u64>,
     pub names: List<Text>,
 }
-
-/// The steps that a run may do where no number is given.
-const STANDARD_STEPS: u64 = 100_000_000;
 
 fn with_digit(number: u64, byte: u8) -> Option<u64>
     ensures { result ≡ with_digit number byte }
