@@ -1,0 +1,9 @@
+pub mod Types
+pub mod Patterns
+pub mod Expressions
+pub mod Coding
+pub mod TypeCodes
+pub mod PatternCodes
+pub mod ExpressionCodes
+pub mod TypeViews
+pub mod Asks
