@@ -7,3 +7,5 @@ pub mod PatternCodes
 pub mod ExpressionCodes
 pub mod TypeViews
 pub mod Asks
+pub mod PatternViews
+pub mod PatternFalls
