@@ -9,3 +9,5 @@ pub mod TypeViews
 pub mod Asks
 pub mod PatternViews
 pub mod PatternFalls
+pub mod ExpressionViews
+pub mod ExpressionFalls
