@@ -6,8 +6,11 @@ pub mod TypeCodes
 pub mod PatternCodes
 pub mod ExpressionCodes
 pub mod TypeViews
-pub mod Asks
 pub mod PatternViews
 pub mod PatternFalls
 pub mod ExpressionViews
 pub mod ExpressionFalls
+pub mod Initials
+pub mod InitialCodes
+pub mod InitialViews
+pub mod InitialFalls
