@@ -157,7 +157,6 @@ mutual
   equations_inj (MoreEquations a0 a1 a2 a3 a4) (MoreEquations b0 b1 b2 b3 b4) e = λ i. MoreEquations (coded_pats.inj a0 b0 (ap (λ g. head (tail g)) e) i) (place.the_row.coded.inj a1 b1 (ap (λ g. head (tail (tail g))) e) i) (expr_inj a2 b2 (ap (λ g. head (tail (tail (tail g)))) e) i) (binds_inj a3 b3 (ap (λ g. head (tail (tail (tail (tail g))))) e) i) (equations_inj a4 b4 (ap (λ g. tail (tail (tail (tail (tail g))))) e) i)
   equations_inj x y e = differ (equations_tag x) (equations_tag y) refl e
 
-
 abbrev pub coded_expr : Coded Expr
 coded_expr = record { code = expr_code; inj = expr_inj }
 

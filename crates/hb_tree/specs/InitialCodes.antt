@@ -39,6 +39,5 @@ mutual
   fields_inj (MoreFieldInits a0 a1 a2) (MoreFieldInits b0 b1 b2) e = λ i. MoreFieldInits (name_at.the_row.coded.inj a0 b0 (ap (λ g. head (tail g)) e) i) (init_inj a1 b1 (ap (λ g. head (tail (tail g))) e) i) (fields_inj a2 b2 (ap (λ g. tail (tail (tail g))) e) i)
   fields_inj x y e = differ (fields_tag x) (fields_tag y) refl e
 
-
 abbrev pub coded_init : Coded InitExpr
 coded_init = record { code = init_code; inj = init_inj }

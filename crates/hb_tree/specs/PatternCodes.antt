@@ -72,7 +72,6 @@ mutual
   fields_inj (MoreFieldPats a0 a1 a2 a3) (MoreFieldPats b0 b1 b2 b3) e = λ i. MoreFieldPats (place.the_row.coded.inj a0 b0 (ap (λ g. head (tail g)) e) i) (name.the_row.coded.inj a1 b1 (ap (λ g. head (tail (tail g))) e) i) (pat_inj a2 b2 (ap (λ g. head (tail (tail (tail g)))) e) i) (fields_inj a3 b3 (ap (λ g. tail (tail (tail (tail g)))) e) i)
   fields_inj x y e = differ (fields_tag x) (fields_tag y) refl e
 
-
 abbrev pub coded_pat : Coded Pat
 coded_pat = record { code = pat_code; inj = pat_inj }
 

@@ -65,14 +65,7 @@ pub enum Decl {
     Struct(Place, NameAt, Option<u64>, List<StructPart>),
     Area(Place, NameAt, Option<InitExpr>, TypeExpr, Option<u64>),
     Port(Place, NameAt, Dir, TypeExpr, u32, u128),
-    Class(
-        Place,
-        List<PredExpr>,
-        NameAt,
-        List<NameAt>,
-        List<Depend>,
-        List<Sig>,
-    ),
+    Class(Place, List<PredExpr>, NameAt, List<NameAt>, List<Depend>, List<Sig>),
     Instance(Place, NameAt, List<TypeExpr>, List<PredExpr>, List<Bind>),
 }
 

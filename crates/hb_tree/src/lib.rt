@@ -9,7 +9,9 @@ mod pattern;
 mod statement;
 mod types;
 
-pub use declaration::{BitCon, BitPart, DataCon, Decl, Depend, FieldDecl, Fix, Program, StructPart};
+pub use declaration::{
+    BitCon, BitPart, DataCon, Decl, Depend, FieldDecl, Fix, Program, StructPart,
+};
 pub use expression::{Expr, ExprKind, FieldExpr};
 pub use initial::{FieldInit, InitExpr, InitKind};
 pub use pattern::{FieldPat, Pat, PatKind};

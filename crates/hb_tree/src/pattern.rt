@@ -58,6 +58,50 @@ impl Model for Pat {
 }
 
 impl Pat {
+    /// Any value: `_`.
+    pub fn any(place: Place) -> Pat
+        ensures built { result ≡ tree.APat 0 place tree.Any }
+    {
+        Pat {
+            node: 0,
+            place,
+            kind: PatKind::Any,
+        }
+    }
+
+    /// A variable.
+    pub fn var(place: Place, name: Name) -> Pat
+        ensures built { result ≡ tree.APat 0 place (tree.Var name) }
+    {
+        Pat {
+            node: 0,
+            place,
+            kind: PatKind::Var(name),
+        }
+    }
+
+    /// A number.
+    pub fn number(place: Place, value: u64) -> Pat
+        ensures built { result ≡ tree.APat 0 place (tree.Number value) }
+    {
+        Pat {
+            node: 0,
+            place,
+            kind: PatKind::Number(value),
+        }
+    }
+
+    /// Bits of a width, as a number.
+    pub fn bits(place: Place, width: u32, value: u128) -> Pat
+        ensures built { result ≡ tree.APat 0 place (tree.Bits width value) }
+    {
+        Pat {
+            node: 0,
+            place,
+            kind: PatKind::Bits(width, value),
+        }
+    }
+
     /// A constructor and the patterns of its arguments.
     pub fn con(place: Place, name: Name, args: List<Pat>) -> Pat
         ensures built { result ≡ tree.APat 0 place (tree.Con name (pats args)) }
@@ -69,7 +113,18 @@ impl Pat {
         }
     }
 
-    /// A pair of patterns.
+    /// A constructor and the patterns of its fields.
+    pub fn fields(place: Place, name: Name, fields: List<FieldPat>) -> Pat
+        ensures built { result ≡ tree.APat 0 place (tree.Fields name (field_pats fields)) }
+    {
+        Pat {
+            node: 0,
+            place,
+            kind: PatKind::Fields(name, fields),
+        }
+    }
+
+    /// A pair.
     pub fn pair(alloc: Global, place: Place, first: Pat, second: Pat) -> Result<Pat, Memory>
         ensures built { IfOk result (λ p. p ≡ tree.APat 0 place (tree.Pair first second)) }
     {
@@ -80,14 +135,14 @@ impl Pat {
         })
     }
 
-    /// A constructor and the patterns of its fields.
-    pub fn fields(place: Place, name: Name, fields: List<FieldPat>) -> Pat
-        ensures built { result ≡ tree.APat 0 place (tree.Fields name (field_pats fields)) }
+    /// The value `()`.
+    pub fn unit(place: Place) -> Pat
+        ensures built { result ≡ tree.APat 0 place tree.Unit }
     {
         Pat {
             node: 0,
             place,
-            kind: PatKind::Fields(name, fields),
+            kind: PatKind::Unit,
         }
     }
 }

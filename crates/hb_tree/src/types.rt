@@ -125,12 +125,7 @@ impl TypeExpr {
     }
 
     /// `f` applied to `x`.
-    pub fn apply(
-        alloc: Global,
-        place: Place,
-        f: TypeExpr,
-        x: TypeExpr,
-    ) -> Result<TypeExpr, Memory>
+    pub fn apply(alloc: Global, place: Place, f: TypeExpr, x: TypeExpr) -> Result<TypeExpr, Memory>
         ensures built { IfOk result (λ t. t ≡ tree.AType place (tree.Apply f x)) }
     {
         Ok(TypeExpr {
