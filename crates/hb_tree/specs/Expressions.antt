@@ -65,7 +65,7 @@ pub record Equation : Type 0 where
   pub body : Expr
   pub local : Binds
 
--- how many forms an expression is made of
+-- how many forms and list entries an expression is made of: each part has fewer
 abbrev mutual
   pub expr_size : Expr → ℕ
   expr_size (AnExpr n p k) = kind_size k + 1
@@ -90,25 +90,25 @@ abbrev mutual
 
   pub exprs_size : Exprs → ℕ
   exprs_size NoExprs = 0
-  exprs_size (MoreExprs e es) = expr_size e + exprs_size es
+  exprs_size (MoreExprs e es) = expr_size e + exprs_size es + 1
 
   pub fields_size : FieldExprs → ℕ
   fields_size NoFieldExprs = 0
-  fields_size (MoreFieldExprs place name e fs) = expr_size e + fields_size fs
+  fields_size (MoreFieldExprs place name e fs) = expr_size e + fields_size fs + 1
 
   pub alts_size : Alts → ℕ
   alts_size NoAlts = 0
-  alts_size (MoreAlts p e all) = expr_size e + alts_size all
+  alts_size (MoreAlts p e all) = expr_size e + alts_size all + 1
 
   pub stmts_size : Stmts → ℕ
   stmts_size NoStmts = 0
-  stmts_size (TakeThen p e ss) = expr_size e + stmts_size ss
-  stmts_size (LetThen bs ss) = binds_size bs + stmts_size ss
-  stmts_size (DoThen e ss) = expr_size e + stmts_size ss
+  stmts_size (TakeThen p e ss) = expr_size e + stmts_size ss + 1
+  stmts_size (LetThen bs ss) = binds_size bs + stmts_size ss + 1
+  stmts_size (DoThen e ss) = expr_size e + stmts_size ss + 1
 
   pub binds_size : Binds → ℕ
   binds_size NoBinds = 0
-  binds_size (MoreBinds name place rows bs) = equations_size rows + binds_size bs
+  binds_size (MoreBinds name place rows bs) = equations_size rows + binds_size bs + 1
 
   pub equations_size : Equations → ℕ
   equations_size NoEquations = 0

@@ -15,7 +15,7 @@ mutual
     NoFieldInits : FieldInits
     MoreFieldInits : NameAt → InitExpr → FieldInits → FieldInits
 
--- how many forms an initialiser is made of
+-- how many forms and list entries an initialiser is made of: each part has fewer
 abbrev mutual
   pub init_size : InitExpr → ℕ
   init_size (Each name i) = init_size i + 1
@@ -24,4 +24,4 @@ abbrev mutual
 
   pub fields_size : FieldInits → ℕ
   fields_size NoFieldInits = 0
-  fields_size (MoreFieldInits name i fs) = init_size i + fields_size fs
+  fields_size (MoreFieldInits name i fs) = init_size i + fields_size fs + 1

@@ -27,7 +27,7 @@ mutual
     NoFieldPats : FieldPats
     MoreFieldPats : Place → Name → Pat → FieldPats → FieldPats
 
--- how many forms a pattern is made of
+-- how many forms and list entries a pattern is made of: each part has fewer
 abbrev mutual
   pub pat_size : Pat → ℕ
   pat_size (APat n p k) = kind_size k + 1
@@ -44,8 +44,8 @@ abbrev mutual
 
   pub pats_size : Pats → ℕ
   pats_size NoPats = 0
-  pats_size (MorePats p ps) = pat_size p + pats_size ps
+  pats_size (MorePats p ps) = pat_size p + pats_size ps + 1
 
   pub fields_size : FieldPats → ℕ
   fields_size NoFieldPats = 0
-  fields_size (MoreFieldPats place name p fs) = pat_size p + fields_size fs
+  fields_size (MoreFieldPats place name p fs) = pat_size p + fields_size fs + 1

@@ -18,7 +18,7 @@ mutual
     Arrow : TypeExpr → TypeExpr → TypeKind
     Sum : TypeExpr → TypeExpr → TypeKind
 
--- how many forms a type is made of
+-- how many forms a type is made of: each part has fewer
 abbrev mutual
   pub type_size : TypeExpr → ℕ
   type_size (AType p k) = kind_size k + 1
