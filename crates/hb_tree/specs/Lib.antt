@@ -14,3 +14,4 @@ pub mod Initials
 pub mod InitialCodes
 pub mod InitialViews
 pub mod InitialFalls
+pub mod Lists

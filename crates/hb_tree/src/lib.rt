@@ -7,6 +7,8 @@ mod expression;
 mod initial;
 mod pattern;
 mod statement;
+#[cfg(test)]
+mod tests;
 mod types;
 
 pub use declaration::{
