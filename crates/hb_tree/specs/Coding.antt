@@ -1,5 +1,5 @@
 -- What codes of trees are made of: a number that tells the form, and its parts.
-use Rattle.std.proofs.Common.{◌≡◌, ℕ, Bool, true, false, eqb, refl, ap}
+use Rattle.std.proofs.Common.{◌≡◌, ℕ, false, eqb, ap}
 use Rattle.std.proofs.lemmas.Bool.{eqb-false}
 use base.Stored.{Gv, gnil, gnum, gcons, num}
 

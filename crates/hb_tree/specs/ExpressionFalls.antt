@@ -1,5 +1,5 @@
 -- Each part of an expression is smaller than the expression.
-use Rattle.std.specs.Prelude.{ℕ, ◌+◌, ◌≤◌, max, List, [], ◌∷◌}
+use Rattle.std.specs.Prelude.{◌+◌, ◌≤◌, max, List, [], ◌∷◌}
 use Rattle.std.proofs.Common.{arith}
 use denote.Param.Weighed.{most}
 use Rattle.hb_tree.specs.Expressions.{Expr, Equation, expr_size, kind_size, exprs_size, fields_size, alts_size, stmts_size, binds_size, equations_size, equation_size}

@@ -1,5 +1,5 @@
 -- Each part of an initialiser is smaller than the initialiser.
-use Rattle.std.specs.Prelude.{ℕ, ◌+◌, ◌≤◌, max, List, [], ◌∷◌}
+use Rattle.std.specs.Prelude.{◌+◌, ◌≤◌, max, List, [], ◌∷◌}
 use Rattle.std.proofs.Common.{arith}
 use denote.Param.Weighed.{most}
 use Rattle.hb_tree.specs.Initials.{init_size, fields_size}

@@ -1,5 +1,5 @@
 -- Each part of a pattern is smaller than the pattern.
-use Rattle.std.specs.Prelude.{ℕ, ◌+◌, ◌≤◌, max, List, [], ◌∷◌}
+use Rattle.std.specs.Prelude.{◌+◌, ◌≤◌, max, List, [], ◌∷◌}
 use Rattle.std.proofs.Common.{arith}
 use denote.Param.Weighed.{most}
 use Rattle.hb_tree.specs.Patterns.{Pat, pat_size, pats_size, fields_size, kind_size}

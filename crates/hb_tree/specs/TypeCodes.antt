@@ -1,5 +1,5 @@
 -- How the logic stores a type expression.
-use Rattle.std.proofs.Common.{◌≡◌, ℕ, Bool, false, refl, ap}
+use Rattle.std.proofs.Common.{◌≡◌, ℕ, refl, ap}
 use Rattle.std.specs.Coded.{Coded, coded_ℕ}
 use base.Stored.{Gv, gnil, gnum, gcons}
 use Rattle.hb_base.specs.contracts.place.Place as place

@@ -1,7 +1,5 @@
 -- What contracts see of a type expression.
-use Rattle.std.specs.Prelude.{ℕ, ◌≤◌, max}
-use Rattle.std.proofs.Common.{arith}
-use Rattle.hb_tree.specs.Types.{TypeExpr, AType, TypeKind, Con, Var, Number, Unit, Pair, Apply, Arrow, Sum, kind_size}
+use Rattle.hb_tree.specs.Types.{TypeKind, Con, Var, Number, Unit, Pair, Apply, Arrow, Sum}
 use Rattle.hb_tree.specs.declared.types.TypeKind.{TypeKind as Kind}
 use Rattle.hb_tree.specs.declared.types.TypeKind.TheVariants as kind
 
