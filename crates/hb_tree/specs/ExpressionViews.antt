@@ -9,7 +9,7 @@ use Rattle.hb_tree.specs.declared.statement.Bind.{Bind}
 use Rattle.hb_tree.specs.declared.statement.Stmt.{Stmt}
 use Rattle.hb_tree.specs.declared.statement.Stmt.TheVariants as stmt
 
--- the parts of a list, one after another
+-- Below, the parts of a list, one after another.
 
 abbrev pub exprs : List Expr → Exprs
 exprs [] = NoExprs
@@ -37,6 +37,7 @@ stmts (stmt.Take p e ∷ ss) = TakeThen p e (stmts ss)
 stmts (stmt.Let bs ∷ ss) = LetThen (binds bs) (stmts ss)
 stmts (stmt.Do e ∷ ss) = DoThen e (stmts ss)
 
+-- the form, with each part as it is seen
 abbrev pub expr_kind : Kind → ExprKind
 expr_kind (kind.Var n) = Var n
 expr_kind (kind.Con n) = Con n

@@ -10,6 +10,7 @@ abbrev pub field_inits : List FieldInit → FieldInits
 field_inits [] = NoFieldInits
 field_inits (f ∷ fs) = MoreFieldInits f.name f.init (field_inits fs)
 
+-- the form, with each part as it is seen
 abbrev pub init_kind : Kind → InitExpr
 init_kind (kind.Each name i) = Each name i.value
 init_kind (kind.Fields fs) = Fields (field_inits fs)

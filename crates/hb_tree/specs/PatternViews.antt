@@ -15,6 +15,7 @@ abbrev pub field_pats : List FieldPat → FieldPats
 field_pats [] = NoFieldPats
 field_pats (f ∷ fs) = MoreFieldPats f.place f.name f.pat (field_pats fs)
 
+-- the form, with each part as it is seen
 abbrev pub pat_kind : Kind → PatKind
 pat_kind kind.Any = Any
 pat_kind (kind.Var n) = Var n

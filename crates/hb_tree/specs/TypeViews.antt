@@ -3,6 +3,7 @@ use Rattle.hb_tree.specs.Types.{TypeKind, Con, Var, Number, Unit, Pair, Apply, A
 use Rattle.hb_tree.specs.declared.types.TypeKind.{TypeKind as Kind}
 use Rattle.hb_tree.specs.declared.types.TypeKind.TheVariants as kind
 
+-- the form, with each part as it is seen
 abbrev pub type_kind : Kind → TypeKind
 type_kind (kind.Con n) = Con n
 type_kind (kind.Var n) = Var n

@@ -53,8 +53,10 @@ pub enum Fix {
     Neither,
 }
 
-/// A declaration. A place is that of the first token; the parts stand in the order in which they are written.
-/// The last two parts of a port are the width and the number of its address.
+/// A declaration. The place is that of its first token, and the parts stand in the order in which they are written.
+/// The number of a `Bitdata` is its width, that of a `Struct` its size, and the last one of an `Area` its alignment. The
+/// last two parts of a `Port` are the width and the number of its address. `parse` gives each equation as a `Bind` of
+/// one row.
 #[derive(Debug, Drop)]
 pub enum Decl {
     Sig(Sig),

@@ -17,7 +17,9 @@ pub struct Expr {
     pub kind: ExprKind,
 }
 
-/// The form of an expression.
+/// The form of an expression. `Bits` holds a width and a number below 2 to the width. `Run` holds operands and the
+/// operators between them, not grouped yet: there is one operator fewer. `If` holds the test, then the two choices.
+/// `Build` makes a value of a constructor, and `Update` replaces fields of a value.
 #[cycle(expressions)]
 #[derive(Debug, Drop)]
 pub enum ExprKind {

@@ -15,7 +15,8 @@ pub struct InitExpr {
     pub kind: InitKind,
 }
 
-/// The form of an initialiser. The place of a cell is the first token of its expression, brackets counted.
+/// The form of an initialiser: one for each element, with the name of the index; one for each field; or a cell's
+/// expression. The place of a cell is the first token of its expression, brackets counted.
 #[cycle(initials)]
 #[derive(Debug, Drop)]
 pub enum InitKind {

@@ -15,7 +15,8 @@ pub struct Pat {
     pub kind: PatKind,
 }
 
-/// The form of a pattern.
+/// The form of a pattern. `Bits` holds a width and a number below 2 to the width. `Con` has patterns for a constructor's
+/// arguments, `Fields` for some of its fields.
 #[cycle(patterns)]
 #[derive(Debug, Drop)]
 pub enum PatKind {

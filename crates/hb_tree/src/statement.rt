@@ -13,7 +13,7 @@ pub struct Alt {
     pub body: Expr,
 }
 
-/// A statement of a `do`.
+/// A statement of a `do`: `pat <- expr`, a `let`, or an expression alone.
 #[cycle(expressions)]
 #[derive(Debug, Drop)]
 pub enum Stmt {

@@ -1,6 +1,8 @@
-use crate::expression::{Expr, ExprKind};
+use crate::expression::{Expr, ExprKind, FieldExpr};
+use crate::initial::{InitExpr, InitKind};
 use crate::pattern::{Pat, PatKind};
 use crate::statement::{Alt, Bind, Equation, Stmt};
+use crate::types::{NameAt, TypeExpr, TypeKind};
 use hb_base::{List, Name, Place};
 use std::alloc::Global;
 use std::test::Fail;
@@ -115,5 +117,81 @@ fn a_block_holds_a_definition(rt: HostRuntime) -> Result<(), Fail> {
         _ => 0,
     };
     assert!(rt; rows == 1);
+    Ok(())
+}
+
+#[test]
+fn an_initialiser_keeps_the_first_token_of_its_cell(rt: HostRuntime) -> Result<(), Fail> {
+    let index = NameAt {
+        place: at(20),
+        name: Name(73),
+    };
+    let cell = InitExpr::cell(at(25), Expr::number(at(26), 9));
+    let init = InitExpr::each(rt.alloc(), index, cell)?;
+    assert!(rt;
+        match &init.kind {
+            InitKind::Each(index, part) => {
+                index.name == Name(73)
+                    && match &part.kind {
+                        InitKind::Cell(first, value) => *first == at(25) && value.place == at(26),
+                        _ => false,
+                    }
+            }
+            _ => false,
+        }
+    );
+    Ok(())
+}
+
+#[test]
+fn an_arrow_leads_from_the_first_type_to_the_second(rt: HostRuntime) -> Result<(), Fail> {
+    let alloc = rt.alloc();
+    let from = TypeExpr::pair(
+        alloc,
+        at(6),
+        TypeExpr::var(at(7), Name(74)),
+        TypeExpr::unit(at(10)),
+    )?;
+    let to = TypeExpr::apply(
+        alloc,
+        at(17),
+        TypeExpr::con(at(17), Name(10)),
+        TypeExpr::number(at(21), 8),
+    )?;
+    let arrow = TypeExpr::arrow(alloc, at(6), from, to)?;
+    assert!(rt;
+        match &arrow.kind {
+            TypeKind::Arrow(from, to) => {
+                matches!(from.kind, TypeKind::Pair(_, _))
+                    && matches!(to.kind, TypeKind::Apply(_, _))
+            }
+            _ => false,
+        }
+    );
+    Ok(())
+}
+
+#[test]
+fn with_ample_memory_each_form_is_built(rt: HostRuntime) -> Result<(), Fail> {
+    let alloc = rt.alloc();
+    let pat = Pat::pair(alloc, at(2), Pat::any(at(3)), Pat::unit(at(6)))?;
+    let function = Expr::lambda(alloc, at(1), one(alloc, pat)?, call(alloc)?)?;
+    let local = Expr::let_in(alloc, at(1), List::of(Vec::new(alloc)), function)?;
+    let field = FieldExpr {
+        place: at(30),
+        name: Name(75),
+        value: local,
+    };
+    let updated = Expr::update(alloc, at(28), call(alloc)?, one(alloc, field)?)?;
+    let selected = Expr::select(alloc, at(28), updated, Name(75))?;
+    let both = Expr::pair(alloc, at(28), selected, Expr::bits(at(50), 2, 3))?;
+    let sum = TypeExpr::sum(
+        alloc,
+        at(60),
+        TypeExpr::number(at(60), 1),
+        TypeExpr::number(at(64), 2),
+    )?;
+    assert!(rt; matches!(both.kind, ExprKind::Pair(_, _)));
+    assert!(rt; matches!(sum.kind, TypeKind::Sum(_, _)));
     Ok(())
 }

@@ -20,7 +20,7 @@ pub struct TypeExpr {
     pub kind: TypeKind,
 }
 
-/// The form of a type.
+/// The form of a type. `Sum` is the sum of two numbers, as `(m + n)`.
 #[cycle(types)]
 #[derive(Debug, Drop)]
 pub enum TypeKind {
