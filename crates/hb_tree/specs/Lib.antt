@@ -1,0 +1,17 @@
+pub mod Types
+pub mod Patterns
+pub mod Expressions
+pub mod Initials
+pub mod Lists
+pub mod Coding
+pub mod TypeCodes
+pub mod PatternCodes
+pub mod ExpressionCodes
+pub mod InitialCodes
+pub mod TypeViews
+pub mod PatternViews
+pub mod ExpressionViews
+pub mod InitialViews
+pub mod PatternFalls
+pub mod ExpressionFalls
+pub mod InitialFalls
