@@ -1,0 +1,16 @@
+pub mod Types
+pub mod Patterns
+pub mod Expressions
+pub mod Coding
+pub mod TypeCodes
+pub mod PatternCodes
+pub mod ExpressionCodes
+pub mod TypeViews
+pub mod PatternViews
+pub mod PatternFalls
+pub mod ExpressionViews
+pub mod ExpressionFalls
+pub mod Initials
+pub mod InitialCodes
+pub mod InitialViews
+pub mod InitialFalls
