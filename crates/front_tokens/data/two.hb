@@ -1,0 +1,2 @@
+main = do a
+          b

@@ -1,0 +1,4 @@
+pub mod LiteralLaws
+pub mod CommentLaws
+pub mod TokensLaws
+pub mod SourceLaws

@@ -1,0 +1,9 @@
+pub mod Bytes
+pub mod Literals
+pub mod Words
+pub mod Pieces
+pub mod Tokens
+pub mod Numbering
+pub mod Answers
+pub mod Reading
+pub mod Steps
