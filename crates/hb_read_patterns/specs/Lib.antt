@@ -1,0 +1,8 @@
+pub mod Nodes
+pub mod Stacks
+pub mod Sorts
+pub mod Heads
+pub mod Starts
+pub mod Moves
+pub mod Taking
+pub mod Exactly
