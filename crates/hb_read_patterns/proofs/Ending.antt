@@ -13,7 +13,7 @@ use Rattle.hb_read_patterns.specs.declared.frame.Frame.{Frame}
 use Rattle.hb_read_patterns.specs.declared.reader.Last.{Last}
 use Rattle.hb_read_patterns.specs.declared.reader.Last.TheVariants.{Named, Done}
 use Rattle.hb_read_patterns.specs.declared.reader.PatReader.{PatReader}
-use Rattle.hb_read_patterns.specs.Stacks.{is_empty}
+use Rattle.hb_stack.specs.Stacks.{is_empty}
 use Rattle.hb_read_patterns.specs.Sorts.{sort_of}
 use Rattle.hb_read_patterns.specs.Heads.{named_head, named_nodes}
 use Rattle.hb_read_patterns.specs.Starts.{start_of}

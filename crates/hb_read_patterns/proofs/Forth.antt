@@ -17,7 +17,7 @@ use Rattle.hb_read_patterns.specs.declared.reader.Last.{Last}
 use Rattle.hb_read_patterns.specs.declared.reader.Last.TheVariants.{Wanted, Opened, Named, Done, Bracketed, Parted, Chosen}
 use Rattle.hb_read_patterns.specs.declared.reader.PatReader.{PatReader}
 use Rattle.std.specs.Prelude.{if◌then◌else◌}
-use Rattle.hb_read_patterns.specs.Stacks.{is_empty}
+use Rattle.hb_stack.specs.Stacks.{is_empty}
 use Rattle.hb_read_patterns.specs.Sorts.{sort_of}
 use Rattle.hb_read_patterns.specs.Heads.{end_head, named_head, named_nodes}
 use Rattle.hb_read_patterns.specs.Starts.{start_of}

@@ -1,5 +1,4 @@
 pub mod Nodes
-pub mod Stacks
 pub mod Sorts
 pub mod Heads
 pub mod Starts

@@ -18,7 +18,7 @@ use Rattle.hb_read_patterns.specs.declared.frame.Due.{Due}
 use Rattle.hb_read_patterns.specs.declared.reader.Last.{Last}
 use Rattle.hb_read_patterns.specs.declared.reader.Last.TheVariants.{Wanted, Opened, Named, Done, Bracketed, Parted, Chosen}
 use Rattle.hb_read_patterns.specs.declared.reader.PatReader.{PatReader}
-use Rattle.hb_read_patterns.specs.Stacks.{is_empty}
+use Rattle.hb_stack.specs.Stacks.{is_empty}
 use Rattle.hb_read_patterns.specs.Sorts.{sort_of, is_close, is_comma, is_open_square, is_close_square, is_bar, is_equals}
 use Rattle.hb_read_patterns.specs.Heads.{more_head, put_node, end_head, named_head, named_nodes}
 use Rattle.hb_read_patterns.specs.Starts.{start_of, more_start}

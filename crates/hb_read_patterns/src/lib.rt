@@ -7,7 +7,6 @@ mod head;
 mod node;
 mod reader;
 mod sort;
-mod stack;
 mod start;
 #[cfg(test)]
 mod tests;

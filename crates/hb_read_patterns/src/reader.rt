@@ -11,9 +11,9 @@ use crate::frame::{Due, Frame, OpenField};
 use crate::head::{Head, one_more};
 use crate::node::PatNode;
 use crate::sort::{Sort, sort_of};
-use crate::stack::Stack;
 use crate::start::{Start, more_start, start_of};
 use hb_base::{List, Memory, Name, Place};
+use hb_stack::Stack;
 use hb_tokens::Token;
 use std::alloc::Global;
 

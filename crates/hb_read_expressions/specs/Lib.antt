@@ -1,0 +1,9 @@
+pub mod Nodes
+pub mod Sorts
+pub mod States
+pub mod Ends
+pub mod Outside
+pub mod Inside
+pub mod Statements
+pub mod Moves
+pub mod Exactly

@@ -1,0 +1,9 @@
+pub mod Behind
+pub mod ContextMoves
+pub mod Nodes
+pub mod PredMoves
+pub mod QualifiedMoves
+pub mod Reads
+pub mod Sorts
+pub mod Taking
+pub mod TypeMoves
