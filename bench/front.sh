@@ -19,7 +19,7 @@ sources = {
     "short names": filled("x "),
     "new names": "".join("n%07d " % n for n in range(SIZE // 9)),
     "numbers": filled("18446744073709551615 "),
-    "one comment": "{-" + filled("-{") [: SIZE - 4] + "-}",
+    "comments in comments": "{-" * (SIZE // 4) + "-}" * (SIZE // 4),
     "lambdas": filled("\\x -> ", "x"),
     "lines of a block": "f = do\n" + filled(" a b\n")[: SIZE - 7],
     "let and in": filled("let a = 1 in ", "a"),
