@@ -1,9 +1,10 @@
-ghost use Rattle.std.specs.Prelude.{◌≡◌, [], ◌∷◌, OnOk, OnErr, is_none, reverse};
+ghost use Rattle.std.specs.Prelude.{◌≡◌, [], ◌∷◌, OnOk, OnErr, is_none, length, reverse};
 ghost use Rattle.hb_stack.specs.Stacks.{Popped, first_of, is_empty, rest_of};
 
-use hb_base::Memory;
+use hb_base::{List, Memory};
 use std::alloc::Global;
 use std::marker::Model;
+use std::mem;
 
 /// A stack. Contracts see it as the list of its items, the top first.
 #[derive(Debug, Drop)]
@@ -56,6 +57,29 @@ impl<T: Drop> Stack<T> {
         ensures none { result ≡ is_none (first_of self.now) }
     {
         self.items.is_empty()
+    }
+
+    /// The number of items.
+    pub fn len(&self) -> usize
+        ensures { result ≡ length self.now }
+    {
+        self.items.len()
+    }
+
+    /// Takes all items off, and answers them in the order in which they were put. Takes no memory.
+    pub fn take_all(&mut self, alloc: Global) -> List<T>
+        ensures all { result ≡ reverse self.old }
+        ensures none_left { self.new ≡ [] }
+    {
+        List::of(mem::replace(&mut self.items, Vec::new(alloc)))
+    }
+
+    /// All items, the top first. Takes no memory.
+    pub fn into_list(mut self) -> List<T>
+        ensures { result ≡ self }
+    {
+        self.items.reverse();
+        List::of(self.items)
     }
 
     /// The items, the top last.

@@ -1,0 +1,16 @@
+use Rattle.std.proofs.Common.{◌∙◌, ap, sym, Some, None}
+use Rattle.hb_build.specs.PatternSteps.{parts_of}
+use Rattle.hb_build.proofs.PatternLaws.{pat_is, pat_only, pat_plain}
+use Rattle.hb_build.proofs.patterns.build_pat.Goals as goal
+
+pub returns-in-Some-clause-found : goal.returns-in-Some-clause-found
+returns-in-Some-clause-found c = λ p u h. c.into_pat.ensures ∙ pat_is (Some c.in-Some.builder.parts) c.args.nodes.now p (ap parts_of (sym c.in-Some.is) ∙ c.in_ok-builder.ensures) u h
+
+pub returns-in-Some-clause-only : goal.returns-in-Some-clause-only
+returns-in-Some-clause-only c = rw c.into_pat.ensures (pat_only (Some c.in-Some.builder.parts) c.args.nodes.now (ap parts_of (sym c.in-Some.is) ∙ c.in_ok-builder.ensures))
+
+pub returns-in-Some-clause-unnumbered : goal.returns-in-Some-clause-unnumbered
+returns-in-Some-clause-unnumbered c = rw c.into_pat.ensures (pat_plain (Some c.in-Some.builder.parts) c.args.nodes.now (ap parts_of (sym c.in-Some.is) ∙ c.in_ok-builder.ensures))
+
+pub returns-in-None-clause-found : goal.returns-in-None-clause-found
+returns-in-None-clause-found c = λ p u h. pat_is None c.args.nodes.now p (ap parts_of (sym c.in-None.is) ∙ c.in_ok-builder.ensures) u h

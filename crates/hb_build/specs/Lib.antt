@@ -1,0 +1,4 @@
+pub mod Building
+pub mod PatternSteps
+pub mod TypeSteps
+pub mod Unnumbered
