@@ -55,7 +55,7 @@ now_other w Want frames ns place = refl
 now_other w (Opened bracket spot) frames ns place = refl
 now_other w (Had head) frames ns place = refl
 
-type_other : (r : TypeReader) (t : Token) → sort_of t ≡ sort.Other → type_move r t ≡ None
+pub type_other : (r : TypeReader) (t : Token) → sort_of t ≡ sort.Other → type_move r t ≡ None
 unfolding type_move
 type_other r t e = ap (move_now r.is_whole r.stage r.frames r.nodes t.place) e ∙ now_other r.is_whole r.stage r.frames r.nodes t.place
 
@@ -87,7 +87,7 @@ at_other First r t e = in_other First r t e
 at_other (Middle f) r t e = in_other (Middle f) r t e
 at_other (Last f) r t e = in_other (Last f) r t e
 
-pred_other : (r : PredReader) (t : Token) → sort_of t ≡ sort.Other → pred_move r t ≡ None
+pub pred_other : (r : PredReader) (t : Token) → sort_of t ≡ sort.Other → pred_move r t ≡ None
 unfolding pred_move
 pred_other r t e = at_other r.stage r.types t e
 
@@ -112,7 +112,7 @@ several_side : (several : Option Several) (t : Token) → sort_of t ≡ sort.Oth
 several_side None t e = refl
 several_side (Some s) t e = several_other s t e
 
-context_other : (r : ContextReader) (t : Token) → sort_of t ≡ sort.Other → context_move r t ≡ None
+pub context_other : (r : ContextReader) (t : Token) → sort_of t ≡ sort.Other → context_move r t ≡ None
 unfolding context_move
 context_other r t e = ap (λ v. side_by_side v (several_moved r.several t)) (one_side r.one t e) ∙ ap (side_by_side None) (several_side r.several t e)
 
@@ -120,11 +120,11 @@ word_is : (w : Word) → is_double_arrow_word w ≡ true → w ≡ word.DoubleAr
 word_is word.DoubleArrow e = refl
 word_is _ e = cc
 
-kind_is : (k : TokenKind) → is_double_arrow_kind k ≡ true → k ≡ AWord word.DoubleArrow
+pub kind_is : (k : TokenKind) → is_double_arrow_kind k ≡ true → k ≡ AWord word.DoubleArrow
 kind_is (AWord w) e = ap AWord (word_is w e)
 kind_is _ e = cc
 
-other_sort : (t : Token) → is_double_arrow t ≡ true → sort_of t ≡ sort.Other
+pub other_sort : (t : Token) → is_double_arrow t ≡ true → sort_of t ≡ sort.Other
 other_sort t e = arrow_other t.place t.kind (kind_is t.kind e)
 
 -- what is still to come
