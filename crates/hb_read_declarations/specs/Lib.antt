@@ -1,0 +1,6 @@
+pub mod Codes
+pub mod Combined
+pub mod Initials
+pub mod Nodes
+pub mod Readers
+pub mod Worths

@@ -1,0 +1,135 @@
+-- What a token is worth to a declaration.
+use Rattle.std.specs.Prelude.{ℕ, ◌==◌, nat_le, if◌then◌else◌, Option, Some, None}
+use Rattle.hb_base.specs.declared.name.Name.{Name}
+use Rattle.hb_base.specs.declared.place.Place.{Place}
+use Rattle.hb_base.specs.declared.port.Dir.{Dir}
+use Rattle.hb_base.specs.declared.port.Dir.TheVariants.{In, Out}
+use Rattle.hb_base.specs.Fixed.{wildcard}
+use Rattle.hb_tokens.specs.declared.token.Token.{Token}
+use Rattle.hb_tokens.specs.declared.token.TokenKind.{TokenKind}
+use Rattle.hb_tokens.specs.declared.token.TokenKind.TheVariants.{VarId, ConId, Op, Word as AWord, Number, Bits, Mark, End}
+use Rattle.hb_tokens.specs.declared.word.Word.{Word}
+use Rattle.hb_tokens.specs.declared.word.Word.TheVariants as word
+use Rattle.hb_tree.specs.declared.declaration.Fix.{Fix}
+use Rattle.hb_tree.specs.declared.declaration.Fix.TheVariants.{Left, Right, Neither}
+use Rattle.hb_tree.specs.declared.types.NameAt.{NameAt}
+use Rattle.hb_read_declarations.specs.Codes.{word_code}
+
+abbrev pub at_place : Place → Name → NameAt
+at_place place name = record { place = place; name = name }
+
+abbrev pub kind_var : Place → TokenKind → Option NameAt
+kind_var p (VarId name) = if name.0 == wildcard.0 then None else Some (at_place p name)
+kind_var p _ = None
+
+-- a variable
+abbrev pub var : Token → Option NameAt
+var t = kind_var t.place t.kind
+
+abbrev pub kind_con : Place → TokenKind → Option NameAt
+kind_con p (ConId name) = Some (at_place p name)
+kind_con p _ = None
+
+abbrev pub con : Token → Option NameAt
+con t = kind_con t.place t.kind
+
+abbrev pub kind_op : Place → TokenKind → Option NameAt
+kind_op p (Op name) = Some (at_place p name)
+kind_op p _ = None
+
+abbrev pub op : Token → Option NameAt
+op t = kind_op t.place t.kind
+
+abbrev pub kind_this_con : Name → Place → TokenKind → Option Place
+kind_this_con n p (ConId name) = if name.0 == n.0 then Some p else None
+kind_this_con n p _ = None
+
+-- the constructor of this name
+abbrev pub this_con : Name → Token → Option Place
+this_con n t = kind_this_con n t.place t.kind
+
+abbrev pub kind_this_op : Name → Place → TokenKind → Option Place
+kind_this_op n p (Op name) = if name.0 == n.0 then Some p else None
+kind_this_op n p _ = None
+
+-- the operator of this name
+abbrev pub this_op : Name → Token → Option Place
+this_op n t = kind_this_op n t.place t.kind
+
+abbrev pub kind_word : Word → Place → TokenKind → Option Place
+kind_word w p (AWord v) = if word_code v == word_code w then Some p else None
+kind_word w p _ = None
+
+abbrev pub this_word : Word → Token → Option Place
+this_word w t = kind_word w t.place t.kind
+
+abbrev pub kind_mark : ℕ → Place → TokenKind → Option Place
+kind_mark m p (Mark byte) = if byte == m then Some p else None
+kind_mark m p _ = None
+
+abbrev pub mark : ℕ → Token → Option Place
+mark m t = kind_mark m t.place t.kind
+
+abbrev pub kind_number : TokenKind → Option ℕ
+kind_number (Number k) = Some k
+kind_number _ = None
+
+abbrev pub number : Token → Option ℕ
+number t = kind_number t.kind
+
+abbrev pub kind_digit : TokenKind → Option ℕ
+kind_digit (Number k) = if nat_le k 9 then Some k else None
+kind_digit _ = None
+
+-- a number up to 9
+abbrev pub digit : Token → Option ℕ
+digit t = kind_digit t.kind
+
+-- bits: their width and their number
+pub record Width : Type 0 where
+  pub width : ℕ
+  pub number : ℕ
+
+abbrev pub kind_bits : TokenKind → Option Width
+kind_bits (Bits width k) = Some (record { width = width; number = k })
+kind_bits _ = None
+
+abbrev pub bits : Token → Option Width
+bits t = kind_bits t.kind
+
+pub record FixAt : Type 0 where
+  pub place : Place
+  pub fix : Fix
+
+abbrev pub fix_at : Place → Fix → FixAt
+fix_at place fix = record { place = place; fix = fix }
+
+abbrev pub word_fix : Place → Word → Option FixAt
+word_fix p word.Infixl = Some (fix_at p Left)
+word_fix p word.Infixr = Some (fix_at p Right)
+word_fix p word.Infix = Some (fix_at p Neither)
+word_fix p _ = None
+
+abbrev pub kind_fix : Place → TokenKind → Option FixAt
+kind_fix p (AWord w) = word_fix p w
+kind_fix p _ = None
+
+-- `infixl`, `infixr` or `infix`
+abbrev pub fixing : Token → Option FixAt
+fixing t = kind_fix t.place t.kind
+
+abbrev pub kind_dir : TokenKind → Option Dir
+kind_dir (ConId name) = if name.0 == 1 then Some In else if name.0 == 2 then Some Out else None
+kind_dir _ = None
+
+-- `In` or `Out`
+abbrev pub direction : Token → Option Dir
+direction t = kind_dir t.kind
+
+abbrev pub kind_end : Place → TokenKind → Option Place
+kind_end p End = Some p
+kind_end p _ = None
+
+-- the end of the text
+abbrev pub end_of : Token → Option Place
+end_of t = kind_end t.place t.kind
