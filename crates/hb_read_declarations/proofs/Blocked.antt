@@ -31,7 +31,8 @@ use Rattle.hb_read_declarations.specs.Worths.{mark, this_word}
 use Rattle.hb_read_declarations.specs.Readers.{second_of, separated, some, block, append, with_place, a_var, an_atype, a_pred, sig_names, sig_nodes, a_qualified, sig_names_reader, sig_reader, SigNames, maybe_block, maybe_list, depend_nodes, depend_reader, head_reader, is_arrow, no_context, class_head_reader, class_reader, an_equation, instance_reader}
 use Rattle.hb_read_declarations.proofs.ForkLaws.{Marks}
 use Rattle.hb_read_declarations.proofs.Fine.{Fine, fine_by, fine_then, fine_either, fine_empty, fine_placed, fine_fork}
-use Rattle.hb_read_declarations.proofs.Lists.{Made, made, Several, a_thing, Separated, last_thing, more_things, fine_behind, fine_separated, Somes, some_things, fine_some, fine_perhaps, Block, no_thing, empty_thing, last_in, more_in, fine_block, fine_again, fine_in}
+use Rattle.hb_read_declarations.specs.Exactly.{Made}
+use Rattle.hb_read_declarations.proofs.Lists.{made, Several, a_thing, Separated, last_thing, more_things, fine_behind, fine_separated, Somes, some_things, fine_some, fine_perhaps, Block, no_thing, empty_thing, last_in, more_in, fine_block, fine_again, fine_in}
 use Rattle.hb_read_declarations.proofs.WorthLaws.{word_is, word_kind}
 use Rattle.hb_read_declarations.proofs.Leaves.{some_token, ConRead, con_read, MarkRead, mark_read, WordRead, word_read, mark_fine, word_fine}
 use Rattle.hb_read_declarations.proofs.Smaller.{place_of, comma_of, comma_is, comma_fine, a_con_fine, a_var_fine, names_fine, SomeVars, some_vars, some_from, some_back, some_vars_fine}

@@ -18,7 +18,8 @@ use Rattle.hb_read_declarations.specs.Nodes.{valued, bind_of}
 use Rattle.hb_read_declarations.specs.Readers.{an_equation}
 use Rattle.hb_read_declarations.proofs.Known.{Known}
 use Rattle.hb_read_declarations.proofs.Fine.{Fine, fine_by}
-use Rattle.hb_read_declarations.proofs.Lists.{Made, Block, no_thing, empty_thing, last_in, more_in, fine_again}
+use Rattle.hb_read_declarations.specs.Exactly.{Made}
+use Rattle.hb_read_declarations.proofs.Lists.{Block, no_thing, empty_thing, last_in, more_in, fine_again}
 
 -- what an equation begins with: names, `_`, numbers, bits and `(`
 abbrev pub equation_codes : List ℕ

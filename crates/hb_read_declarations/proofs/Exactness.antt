@@ -4,8 +4,8 @@ use Rattle.hb_grammar.specs.Declarations.{ReadsDecl}
 use Rattle.hb_read_patterns.specs.declared.reader.PatReader.{PatReader}
 use Rattle.hb_read_declarations.specs.Nodes.{decl_nodes, program_nodes}
 use Rattle.hb_read_declarations.specs.Readers.{Out, decl_reader, program_reader}
-use Rattle.hb_read_declarations.proofs.Lists.{Made}
-use Rattle.hb_read_declarations.proofs.Program.{InitKnown, ProgramRead, decl_exact, program_exact}
+use Rattle.hb_read_declarations.specs.Exactly.{Made, ProgramRead}
+use Rattle.hb_read_declarations.proofs.Program.{InitKnown, decl_exact, program_exact}
 use Rattle.hb_read_declarations.proofs.EquationTokens.{equation_known}
 use Rattle.hb_read_declarations.specs.Initials.{init_reader}
 use Rattle.hb_read_declarations.proofs.InitKnowing.{an_expr, an_init_known}

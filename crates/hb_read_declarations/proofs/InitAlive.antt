@@ -18,7 +18,8 @@ use Rattle.hb_read_declarations.specs.Readers.{Out}
 use Rattle.hb_read_declarations.specs.Initials.{Frame, InEach, InField, Now, Want, EachWord, EachName, FieldsWord, Field, FieldName, Cell, Over, InitState, at, put, put_cell, is_bar, is_close, init_reader}
 use Rattle.hb_read_declarations.proofs.Known.{some_none, run_before, Ended}
 use Rattle.hb_read_declarations.proofs.WorthLaws.{var_is, word_is, mark_is}
-use Rattle.hb_read_declarations.proofs.Lists.{Made, made}
+use Rattle.hb_read_declarations.specs.Exactly.{Made}
+use Rattle.hb_read_declarations.proofs.Lists.{made}
 use Rattle.hb_read_declarations.proofs.Leaves.{some_token}
 use Rattle.hb_read_declarations.proofs.InitRuns.{Cells, InitPuts, FieldsPuts, puts_each, puts_fields, puts_cell, puts_last, puts_more, init_run, each_over, cell_run}
 use Rattle.hb_read_declarations.proofs.InitExact.{Exprs, each_nodes, more_nodes, last_nodes, last_count, more_count}

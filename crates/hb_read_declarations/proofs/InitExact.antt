@@ -21,7 +21,7 @@ use Rattle.hb_read_declarations.specs.Worths.{var, this_word, mark}
 use Rattle.hb_read_declarations.specs.Readers.{Out}
 use Rattle.hb_read_declarations.specs.Initials.{Want, at, put, put_cell, is_bar, is_close, is_each, is_fields, init_reader}
 use Rattle.hb_read_declarations.proofs.WorthLaws.{var_of, word_of, mark_of, word_kind, mark_kind}
-use Rattle.hb_read_declarations.proofs.Lists.{Made}
+use Rattle.hb_read_declarations.specs.Exactly.{Made}
 use Rattle.hb_read_declarations.proofs.InitRuns.{Cells, InitPuts, FieldsPuts, puts_each, puts_fields, puts_cell, puts_last, puts_more}
 use Rattle.hb_read_declarations.proofs.InitBack.{init_sound}
 

@@ -31,7 +31,8 @@ use Rattle.hb_read_declarations.specs.Readers.{Out}
 use Rattle.hb_read_declarations.specs.Initials.{Frame, InEach, InField, Now, Want, EachWord, EachName, FieldsWord, Field, FieldName, Cell, Over, InitState, at, put, put_cell, is_bar, is_close, is_each, is_fields, next, in_cell, move_now, done_now, init_reader}
 use Rattle.hb_read_declarations.proofs.Known.{Known, some_is, true_false, not_some, equal_is, known_by, member_right}
 use Rattle.hb_read_declarations.proofs.Fine.{worth_known}
-use Rattle.hb_read_declarations.proofs.Lists.{Made, made_again, again_made}
+use Rattle.hb_read_declarations.specs.Exactly.{Made}
+use Rattle.hb_read_declarations.proofs.Lists.{made_again, again_made}
 use Rattle.hb_read_declarations.proofs.Equations.{going_codes, no_colons}
 use Rattle.hb_read_declarations.proofs.EquationTokens.{equation_ends, equation_takes}
 use Rattle.hb_read_declarations.proofs.InitRuns.{Cells, next_cases}

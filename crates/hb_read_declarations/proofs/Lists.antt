@@ -14,14 +14,9 @@ use Rattle.hb_read_declarations.specs.declared.node.DeclNode.{DeclNode}
 use Rattle.hb_read_declarations.specs.Readers.{join, several, head_and, first_of, second_of, separated, some, perhaps, block}
 use Rattle.hb_read_declarations.proofs.Known.{none}
 use Rattle.hb_read_declarations.proofs.ThenLaws.{and, then_goes}
+use Rattle.hb_read_declarations.specs.Exactly.{Made}
 use Rattle.hb_read_declarations.proofs.StarLaws.{star_goes}
 use Rattle.hb_read_declarations.proofs.Fine.{Fine, fine_by, fine_one, fine_empty, fine_then, fine_either, fine_star, fine_worth, apart_none}
-
--- the tokens ts begin with something that the family reads, and v is made of it
-pub record Made {A V : Type 0} (Reads : List Token → A → List Token → Type 0) (f : A → V) (ts : List Token) (v : V) (us : List Token) : Type 0 where
-  pub thing : A
-  pub read : Reads ts thing us
-  pub is : v ≡ f thing
 
 pub made : {A V : Type 0} {Reads : List Token → A → List Token → Type 0} {f : A → V} {ts us : List Token} (a : A) → Reads ts a us → Made Reads f ts (f a) us
 made a h = record { thing = a; read = h; is = refl }

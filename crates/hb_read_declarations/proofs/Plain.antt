@@ -31,7 +31,8 @@ use Rattle.hb_read_declarations.specs.Worths.{Width, this_word}
 use Rattle.hb_read_declarations.specs.Readers.{first_of, second_of, separated, several, append, with_node, with_place, an_atype, digit_before, fixity_nodes, fixity_reader, con_nodes, data_con_reader, data_reader, field_type, field_decl_reader, tag_nodes, bit_part_reader, with_parts, bit_con_reader, bitdata_reader, pad_nodes, struct_part_reader, struct_reader, port_type, port_dir, port_name, port_nodes, port_reader}
 use Rattle.hb_read_types.specs.TypeMoves.{type_reader}
 use Rattle.hb_read_declarations.proofs.Fine.{Fine, fine_by, fine_one, fine_then, fine_either, fine_empty}
-use Rattle.hb_read_declarations.proofs.Lists.{Made, made, Several, nothing_more, a_thing, Separated, last_thing, more_things, fine_several, fine_behind, fine_separated, fine_made, fine_again, fine_in}
+use Rattle.hb_read_declarations.specs.Exactly.{Made}
+use Rattle.hb_read_declarations.proofs.Lists.{made, Several, nothing_more, a_thing, Separated, last_thing, more_things, fine_several, fine_behind, fine_separated, fine_made, fine_again, fine_in}
 use Rattle.hb_read_declarations.proofs.WorthLaws.{word_of, word_is, word_is_code}
 use Rattle.hb_read_declarations.proofs.Leaves.{some_token, VarRead, var_read, ConRead, con_read, MarkRead, mark_read, ThisConRead, this_con_read, WordRead, word_read, NumberRead, number_read, DigitRead, digit_read, BitsRead, bits_read, FixRead, fix_read, DirRead, dir_read, mark_fine, this_con_fine, word_fine, number_fine, digit_fine, bits_fine, fix_fine, dir_fine}
 use Rattle.hb_read_declarations.proofs.Smaller.{place_of, a_var_fine, a_con_fine, infixes_fine, field_names_fine, vars_fine, size_fine}

@@ -12,10 +12,11 @@ use Rattle.hb_tree.specs.declared.statement.Bind.{Bind}
 use Rattle.hb_tree.specs.declared.declaration.Decl.{Decl}
 use Rattle.hb_tree.specs.declared.declaration.Decl.TheVariants as decl
 use Rattle.hb_tree.specs.declared.declaration.Program.{Program}
-use Rattle.hb_grammar.specs.Tokens.{first_place, IsWord, IsOpenBrace, IsEnd}
+use Rattle.hb_grammar.specs.Tokens.{first_place, IsWord, IsEnd}
 use Rattle.hb_grammar.specs.Types.{ReadsType, name_at}
 use Rattle.hb_grammar.specs.Reading.{Reader, Exact}
 use Rattle.hb_grammar.specs.Declarations as grammar
+use Rattle.hb_read_declarations.specs.Exactly.{ProgramRead, program_read, Made}
 use Rattle.hb_grammar.specs.Declarations.{ReadsSig, ReadsInit, ReadsStart, ReadsAlign, ReadsDecl, ReadsDecls, Derives}
 use Rattle.hb_read_patterns.specs.declared.reader.PatReader.{PatReader}
 use Rattle.hb_read_declarations.specs.Codes.{kind_code, code, member, not}
@@ -28,7 +29,7 @@ use Rattle.hb_read_declarations.specs.Readers.{Out, second_of, block, append, wi
 use Rattle.hb_read_declarations.proofs.Known.{Known, some_is}
 use Rattle.hb_read_declarations.proofs.ForkLaws.{Marks}
 use Rattle.hb_read_declarations.proofs.Fine.{Fine, fine_by, fine_one, fine_then, fine_either, fine_empty, fine_fork}
-use Rattle.hb_read_declarations.proofs.Lists.{Made, made, Block, no_thing, empty_thing, last_in, more_in, fine_perhaps, fine_block, fine_again, fine_in}
+use Rattle.hb_read_declarations.proofs.Lists.{made, Block, no_thing, empty_thing, last_in, more_in, fine_perhaps, fine_block, fine_again, fine_in}
 use Rattle.hb_read_declarations.proofs.WorthLaws.{word_kind, word_is}
 use Rattle.hb_read_declarations.proofs.Leaves.{some_token, VarRead, var_read, con_read, MarkRead, mark_read, WordRead, word_read, fix_read, digit_read, dir_read, bits_read, mark_fine, word_fine}
 use Rattle.hb_read_declarations.proofs.Smaller.{a_var_fine, align_fine, some_vars}
@@ -192,10 +193,6 @@ end_code t p e = ap (λ k. member (kind_code k) (7 ∷ [])) (end_kind t.place t.
 
 abbrev pub end_fine : Fine (one end_of) EndRead
 end_fine = fine_by (λ ts v us h. end_from h) (λ ts v us h. end_back h) (fine_one end_of (7 ∷ []) end_code (some_token End) refl)
-
--- the tokens ts begin with a program and its end, and us are left
-pub data ProgramRead : List Token → Program → List Token → Type 0 where
-  program_read : {t s : Token} {ts us : List Token} {ds : List Decl} → IsOpenBrace t → ReadsDecls ts ds (s ∷ us) → IsEnd s → ProgramRead (t ∷ ts) (record { decls = ds }) us
 
 abbrev pub ProgramRaw : List Token → List DeclNode → List Token → Type 0
 ProgramRaw = ThenReads second_of (MarkRead 123) (ThenReads program_out (Made ReadsDecls (counted decl_nodes)) EndRead)

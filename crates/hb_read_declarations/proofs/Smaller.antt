@@ -19,7 +19,8 @@ use Rattle.hb_read_declarations.specs.Nodes.{counted, closed, named, names_of, n
 use Rattle.hb_read_declarations.specs.Worths.{mark}
 use Rattle.hb_read_declarations.specs.Readers.{first_of, second_of, a_var, a_con, bracketed, name_reader, infix_reader, names_reader, infixes_reader, field_names_reader, vars_reader, some_vars_reader, number_nodes, size_reader, align_reader}
 use Rattle.hb_read_declarations.proofs.Fine.{Fine, fine_by, fine_one, fine_then, fine_either, fine_empty}
-use Rattle.hb_read_declarations.proofs.Lists.{Made, made, Several, nothing_more, a_thing, Separated, last_thing, more_things, fine_several, fine_behind, fine_separated, Somes, some_things, fine_some, fine_made, fine_again, fine_in}
+use Rattle.hb_read_declarations.specs.Exactly.{Made}
+use Rattle.hb_read_declarations.proofs.Lists.{made, Several, nothing_more, a_thing, Separated, last_thing, more_things, fine_several, fine_behind, fine_separated, Somes, some_things, fine_some, fine_made, fine_again, fine_in}
 use Rattle.hb_read_declarations.proofs.WorthLaws.{mark_of, mark_is, mark_code}
 use Rattle.hb_read_declarations.proofs.Leaves.{some_token, VarRead, var_read, ConRead, OpRead, op_read, MarkRead, mark_read, ThisOpRead, this_op_read, WordRead, word_read, NumberRead, number_read, var_fine, con_fine, op_fine, mark_fine, this_op_fine, word_fine, number_fine}
 

@@ -40,7 +40,8 @@ use Rattle.hb_read_declarations.specs.Readers.{a_type, an_atype, a_pred}
 use Rattle.hb_read_declarations.proofs.Known.{Known, none, some_none, equal_is, member_left}
 use Rattle.hb_read_declarations.proofs.WorthLaws.{name_is}
 use Rattle.hb_read_declarations.proofs.Fine.{Fine, fine_by}
-use Rattle.hb_read_declarations.proofs.Lists.{Made, fine_again}
+use Rattle.hb_read_declarations.specs.Exactly.{Made}
+use Rattle.hb_read_declarations.proofs.Lists.{fine_again}
 
 -- the tokens of types: names, numbers, operators, `(`, `)`, `,`, `=` and `->`
 abbrev pub type_codes : List ℕ

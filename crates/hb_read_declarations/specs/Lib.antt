@@ -4,3 +4,4 @@ pub mod Initials
 pub mod Nodes
 pub mod Readers
 pub mod Worths
+pub mod Exactly
