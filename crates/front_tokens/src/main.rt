@@ -2,12 +2,15 @@
 //! source is refused, and 2 where it cannot be read.
 #![tactic(auto)]
 
+ghost use Rattle.std.specs.Prelude.{IfOk};
+ghost use Rattle.front_tokens.specs.Counting.{Counts};
+
 use hb_base::limits::SOURCE_BYTES;
 use hb_base::{Fault, Names};
 use hb_front::laid_tokens;
 use hb_io::{DirShelf, Shelf, Sink, StdSink};
 use std::alloc::Global;
-use std::env::{Env, FillError};
+use std::env::Env;
 use std::process::ExitCode;
 
 /// The longest name of a file.
@@ -28,7 +31,9 @@ fn source(alloc: Global, rt: &impl Env, shelf: &mut impl Shelf) -> Option<Vec<u8
 }
 
 /// The number of laid-out tokens, or the status.
-fn count(alloc: Global, source: &[u8]) -> Result<usize, u8> {
+fn count(alloc: Global, source: &[u8]) -> Result<usize, u8>
+    ensures counted { IfOk result (Counts source.now) }
+{
     if source.len() > SOURCE_BYTES as usize {
         return Err(REFUSED);
     }

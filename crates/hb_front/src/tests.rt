@@ -143,10 +143,23 @@ fn an_open_bracket_at_the_end_goes_before_too_many(rt: HostRuntime) -> Result<()
     Ok(())
 }
 
+/// Whether the source is laid out, and its end is the first of this line.
+fn ends_at_line(alloc: Global, source: &[u8], line: u32) -> Result<bool, Fail> {
+    let Ok(tokens) = laid(alloc, source)? else {
+        return Ok(false);
+    };
+    match tokens.list.as_slice().last() {
+        Some(end) => {
+            Ok(end.kind == TokenKind::End && end.place.line == line && end.place.col == 1)
+        }
+        None => Ok(false),
+    }
+}
+
 #[test]
 fn the_echo_and_the_prelude_are_laid_out(rt: HostRuntime) -> Result<(), Fail> {
-    assert!(rt; laid(rt.alloc(), UART)?.is_ok());
-    assert!(rt; laid(rt.alloc(), PRELUDE)?.is_ok());
+    assert!(rt; ends_at_line(rt.alloc(), UART, 56)?);
+    assert!(rt; ends_at_line(rt.alloc(), PRELUDE, 92)?);
     Ok(())
 }
 

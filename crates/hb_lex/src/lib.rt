@@ -11,8 +11,6 @@ mod comment;
 mod lexer;
 mod literal;
 mod piece;
-#[cfg(test)]
-mod samples;
 mod scan;
 mod source;
 #[cfg(test)]

@@ -1,5 +1,4 @@
 use crate::lex;
-use crate::samples::{PRELUDE, UART};
 use hb_base::{Code, Fault, Name, Names, Refusal, fixed};
 use hb_tokens::{Token, TokenKind, Tokens, Word};
 use std::alloc::Global;
@@ -430,29 +429,5 @@ fn each_name_is_taken_in_once(rt: HostRuntime) -> Result<(), Fail> {
     assert_eq!(rt; names.count(), 75);
     assert!(rt; is_refused(rt.alloc(), b"new g 1a", &mut names)?);
     assert!(rt; is_named(&names, Name(72), b"g"));
-    Ok(())
-}
-
-/// The place of the end, where the source gives tokens.
-fn end_line(alloc: Global, source: &[u8]) -> Result<Option<Token>, Fail> {
-    let mut names = Names::new(alloc)?;
-    match read(alloc, source, &mut names)? {
-        Ok(tokens) => Ok(tokens.list.as_slice().last().copied()),
-        Err(_) => Ok(None),
-    }
-}
-
-#[test]
-fn whole_sources_give_tokens(rt: HostRuntime) -> Result<(), Fail> {
-    let rows: &[(&[u8], u32)] = &[(UART, 56), (PRELUDE, 92)];
-    for (source, line) in rows {
-        let end = end_line(rt.alloc(), source)?;
-        assert!(rt; end.is_some());
-        if let Some(end) = end {
-            assert_eq!(rt; end.kind, TokenKind::End);
-            assert_eq!(rt; end.place.line, *line);
-            assert_eq!(rt; end.place.col, 1);
-        }
-    }
     Ok(())
 }
