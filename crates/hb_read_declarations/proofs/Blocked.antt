@@ -1,5 +1,5 @@
 -- The readers of signatures, classes and instances.
-use Rattle.std.proofs.Common.{◌≡◌, true, List, [], ◌∷◌, ◌++◌, Option, Some, None, is_some, refl, sym, ap, subst}
+use Rattle.std.proofs.Common.{◌≡◌, true, List, [], ◌∷◌, ◌++◌, Some, is_some, refl, sym, ap, subst}
 use Rattle.hb_base.specs.declared.place.Place.{Place}
 use Rattle.hb_tokens.specs.declared.token.Token.{Token}
 use Rattle.hb_tokens.specs.declared.token.TokenKind.TheVariants.{Word as AWord}
@@ -39,6 +39,7 @@ use Rattle.hb_read_declarations.proofs.Smaller.{place_of, comma_of, comma_is, co
 use Rattle.hb_read_declarations.proofs.Typing.{atype_fine, pred_fine, context_bare_fine, Qualified, QualifiedRead, qualified_nodes, qualified_bare_fine}
 use Rattle.hb_read_declarations.proofs.Plain.{both_are, DeclMade, atypes_from, atypes_back}
 use Rattle.hb_read_declarations.proofs.Equations.{EquationKnown, EquationRead, equation_fine, binds_from, binds_back}
+use Rattle.hb_read_declarations.proofs.Known.{some_place}
 
 -- signatures
 
@@ -163,12 +164,8 @@ context_of ps = typed (context_nodes ps)
 abbrev pub context_fine : Fine (worth_of typed context_reader) (Made ReadsContext context_of)
 context_fine = fine_again context_nodes typed context_bare_fine
 
-some_word : (o : Option Place) → is_some o ≡ true → (p : Place) × (o ≡ Some p)
-some_word None e = cc
-some_word (Some p) e = (p, refl)
-
 pub arrow_of : (t : Token) → is_arrow t ≡ true → IsWord word.DoubleArrow t
-arrow_of t e = by_word (some_word (this_word word.DoubleArrow t) e)
+arrow_of t e = by_word (some_place (this_word word.DoubleArrow t) e)
   where
     by_word : (p : Place) × (this_word word.DoubleArrow t ≡ Some p) → IsWord word.DoubleArrow t
     by_word (p, d) = (word_kind word.DoubleArrow t.place t.kind d).0

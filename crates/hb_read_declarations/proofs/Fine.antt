@@ -1,5 +1,5 @@
 -- A reader with all that is known of it.
-use Rattle.std.proofs.Common.{◌≡◌, ℕ, Bool, true, false, List, [], ◌∷◌, ◌++◌, Option, Some, None, is_some, refl, ap, subst, ◌∙◌}
+use Rattle.std.proofs.Common.{◌≡◌, ℕ, Bool, true, false, List, [], ◌∷◌, ◌++◌, Option, Some, refl, ap, subst, ◌∙◌}
 use Rattle.hb_base.specs.declared.place.Place.{Place}
 use Rattle.hb_tokens.specs.declared.token.Token.{Token}
 use Rattle.hb_grammar.specs.Reading.{Reader, Runs, stop, take, Reached, at_start, after, Exact}
@@ -10,7 +10,7 @@ use Rattle.hb_read_declarations.proofs.ThenLaws.{and, then_goes, then_known}
 use Rattle.hb_read_declarations.proofs.EitherLaws.{either_goes, either_known}
 use Rattle.hb_read_declarations.proofs.StarLaws.{star_goes, star_known}
 use Rattle.hb_read_declarations.proofs.PlacedLaws.{placed_known}
-use Rattle.hb_read_declarations.proofs.ForkLaws.{Marks, fork_goes, fork_uses, fork_known}
+use Rattle.hb_read_declarations.proofs.ForkLaws.{Marks, fork_goes, fork_uses, fork_known, mapped_null}
 
 pub record Fine {S V : Type 0} (reader : Reader S V) (Reads : List Token → V → List Token → Type 0) : Type 0 where
   pub null : Bool
@@ -80,10 +80,6 @@ worth_alive f a (ts, (v, h)) = (ts, (f v, worth_run f a h))
 
 worth_ends : {S V W : Type 0} (f : V → W) (a : Reader S V) (s : S) {w : W} {P : Type 0} → Of f (a.done s) w → ((v : V) → a.done s ≡ Some v → P) → P
 worth_ends f a s (of v e d) g = g v e
-
-mapped_null : {V W : Type 0} (f : V → W) (o : Option V) → is_some (mapped f o) ≡ is_some o
-mapped_null f None = refl
-mapped_null f (Some v) = refl
 
 pub worth_known : {S V W : Type 0} {a : Reader S V} {Reads : List Token → V → List Token → Type 0} {null : Bool} {first : List ℕ} {goes uses : ℕ → Bool} → (f : V → W) → Known a Reads null first goes uses → Known (worth_of f a) (WorthReads f Reads) null first goes uses
 worth_known {a} f k = record {

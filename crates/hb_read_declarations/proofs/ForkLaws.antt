@@ -5,7 +5,7 @@ use Rattle.hb_tokens.specs.declared.token.Token.{Token}
 use Rattle.hb_grammar.specs.Reading.{Reader, Runs, stop, take, Reached, at_start, after, Exact}
 use Rattle.hb_read_declarations.specs.Codes.{code, or, member}
 use Rattle.hb_read_declarations.specs.Combined.{mapped, Fork, Sides, Turned, moved, whole_of, sides, turned, fork_move, fork_done, fork, ForkReads, with_mark, without_mark}
-use Rattle.hb_read_declarations.proofs.Known.{Known, some_is, some_none, true_false, Of, of, mapped_of, or_left, or_right, member_left, member_right, Ended, none_is, same_is, run_before}
+use Rattle.hb_read_declarations.proofs.Known.{Known, some_is, some_none, true_false, Of, of, mapped_of, or_left, or_right, member_left, member_right, Ended, none_is, same_is, run_before, if_true, if_false}
 
 -- a mark, and what takes no mark
 pub record Marks (is_mark : Token → Bool) (m : ℕ) : Type 0 where
@@ -16,14 +16,6 @@ pub record Marks (is_mark : Token → Bool) (m : ℕ) : Type 0 where
 no_mark : {is_mark : Token → Bool} {m : ℕ} (u : ℕ → Bool) → Marks is_mark m → u m ≡ false → (t : Token) (b : Bool) → is_mark t ≡ b → u (code t) ≡ true → b ≡ false
 no_mark u k n t true e d = absurd (true_false d (ap u (k.code_of t e) ∙ n))
 no_mark u k n t false e d = refl
-
-if_true : {A : Type 0} (b : Bool) (o p : A) → b ≡ true → cond b o p ≡ o
-if_true true o p e = refl
-if_true false o p e = cc
-
-if_false : {A : Type 0} (b : Bool) (o p : A) → b ≡ false → cond b o p ≡ p
-if_false false o p e = refl
-if_false true o p e = cc
 
 cond_cases : {A P : Type 0} (b : Bool) (o p : Option A) {x : A} → cond b o p ≡ Some x → (b ≡ true → o ≡ Some x → P) → (b ≡ false → p ≡ Some x → P) → P
 cond_cases true o p e f g = f refl e
@@ -278,7 +270,7 @@ fork_begins c {a} {b} is_mark t ka kb e =
     (λ n d. value_of (turned_of c.start (a.done a.start) d) (λ v i. absurd (some_none i (none_is (a.done a.start) ka.nothing))))
     (λ n d. start_begins t (a.move a.start t) (b.move b.start t) refl refl ka kb (side_some (side_of (a.move a.start t) (b.move b.start t) d)))
 
-mapped_null : {V W : Type 0} (f : V → W) (o : Option V) → is_some (mapped f o) ≡ is_some o
+pub mapped_null : {V W : Type 0} (f : V → W) (o : Option V) → is_some (mapped f o) ≡ is_some o
 mapped_null f None = refl
 mapped_null f (Some v) = refl
 

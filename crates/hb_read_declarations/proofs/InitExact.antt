@@ -1,5 +1,5 @@
 -- The reader of initialisers is exact.
-use Rattle.std.proofs.Common.{◌≡◌, ℕ, ◌+◌, true, List, [], ◌∷◌, ◌++◌, Option, Some, None, is_some, refl, sym, ap, subst, ◌∙◌, append_assoc, arith}
+use Rattle.std.proofs.Common.{◌≡◌, ℕ, ◌+◌, true, List, [], ◌∷◌, ◌++◌, Some, is_some, sym, ap, subst, ◌∙◌, append_assoc, arith}
 use Rattle.hb_base.specs.declared.place.Place.{Place}
 use Rattle.hb_tokens.specs.declared.token.Token.{Token}
 use Rattle.hb_tokens.specs.declared.word.Word.{Word}
@@ -24,16 +24,13 @@ use Rattle.hb_read_declarations.proofs.WorthLaws.{var_of, word_of, mark_of, word
 use Rattle.hb_read_declarations.specs.Exactly.{Made}
 use Rattle.hb_read_declarations.proofs.InitRuns.{Cells, InitPuts, FieldsPuts, puts_each, puts_fields, puts_cell, puts_last, puts_more}
 use Rattle.hb_read_declarations.proofs.InitBack.{init_sound}
+use Rattle.hb_read_declarations.proofs.Known.{some_place}
 
 abbrev pub expr_of : Expr → Out
 expr_of e = valued (expr_nodes e)
 
 abbrev pub Exprs : List Token → Out → List Token → Type 0
 Exprs = Made ReadsExpr expr_of
-
-some_place : (o : Option Place) → is_some o ≡ true → (p : Place) × (o ≡ Some p)
-some_place None e = cc
-some_place (Some p) e = (p, refl)
 
 pub close_holds : (t : Token) → is_close t ≡ true → IsMark 93 t
 close_holds t e = by_mark (some_place (mark 93 t) e)

@@ -15,7 +15,7 @@ use Rattle.hb_read_declarations.specs.Nodes.{named}
 use Rattle.hb_read_declarations.specs.Worths.{var, this_word, kind_word, mark}
 use Rattle.hb_read_declarations.specs.Readers.{Out}
 use Rattle.hb_read_declarations.specs.Initials.{Frame, InEach, InField, Now, Want, EachWord, EachName, FieldsWord, Field, FieldName, Cell, Over, InitState, at, put, put_cell, is_bar, is_close, is_each, is_fields, next, in_cell, settled_cell, init_reader}
-use Rattle.hb_read_declarations.proofs.Known.{some_none}
+use Rattle.hb_read_declarations.proofs.Known.{some_none, if_true, if_false}
 
 -- what is asked of the reader of expressions: `|` and `]` do not go on with a whole one, and none begins with `each` or
 -- `fields`
@@ -46,14 +46,6 @@ RunsOn expr fs n out ts v us = Runs (init_reader expr) (at fs n out) ts v us
 pub each_over : {S : Type 0} (expr : Reader S Out) {fs : List Frame} {out v : Out} {ts us : List Token} → RunsOn expr fs Over (put out node.InitEach) ts v us → RunsOn expr (InEach ∷ fs) Over out ts v us
 each_over expr (stop e) = stop e
 each_over expr (take e h) = take e h
-
-if_true : {A : Type 0} (b : Bool) (o p : A) → b ≡ true → cond b o p ≡ o
-if_true true o p e = refl
-if_true false o p e = cc
-
-if_false : {A : Type 0} (b : Bool) (o p : A) → b ≡ false → cond b o p ≡ p
-if_false false o p e = refl
-if_false true o p e = cc
 
 -- what goes on after a whole one is `|` or `]`
 pub next_cases : {S P : Type 0} (fs : List Frame) (out : Out) (t : Token) {y : InitState S} → next fs out t ≡ Some y → (is_bar t ≡ true → P) → (is_close t ≡ true → P) → P

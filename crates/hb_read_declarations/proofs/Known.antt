@@ -19,6 +19,19 @@ pub record Known {State Value : Type 0} (reader : Reader State Value) (Reads : L
 abbrev pub none : ℕ → Bool
 none c = false
 
+-- the sides of a choice, and what an option that is there holds
+pub if_true : {A : Type 0} (b : Bool) (o p : A) → b ≡ true → cond b o p ≡ o
+if_true true o p e = refl
+if_true false o p e = cc
+
+pub if_false : {A : Type 0} (b : Bool) (o p : A) → b ≡ false → cond b o p ≡ p
+if_false false o p e = refl
+if_false true o p e = cc
+
+pub some_place : {P : Type 0} (o : Option P) → is_some o ≡ true → (p : P) × (o ≡ Some p)
+some_place None e = cc
+some_place (Some p) e = (p, refl)
+
 pub some_is : {A : Type 0} {a b : A} → Some a ≡ Some b → a ≡ b
 some_is e = cc
 

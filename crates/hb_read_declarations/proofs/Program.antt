@@ -26,7 +26,7 @@ use Rattle.hb_read_declarations.specs.Combined.{one, OneReads, one_token, EmptyR
 use Rattle.hb_read_declarations.specs.Nodes.{counted, closed, named, number_of, type_of, sig_of, bind_of, init_nodes, start_of, decl_nodes, program_nodes}
 use Rattle.hb_read_declarations.specs.Worths.{this_word, kind_end, end_of}
 use Rattle.hb_read_declarations.specs.Readers.{Out, second_of, block, append, with_node, with_place, sig_names, sig_nodes, start_reader, area_reader, is_colons, line_reader, decl_reader, program_out, program_reader}
-use Rattle.hb_read_declarations.proofs.Known.{Known, some_is}
+use Rattle.hb_read_declarations.proofs.Known.{Known, some_is, some_place}
 use Rattle.hb_read_declarations.proofs.ForkLaws.{Marks}
 use Rattle.hb_read_declarations.proofs.Fine.{Fine, fine_by, fine_one, fine_then, fine_either, fine_empty, fine_fork}
 use Rattle.hb_read_declarations.proofs.Lists.{made, Block, no_thing, empty_thing, last_in, more_in, fine_perhaps, fine_block, fine_again, fine_in}
@@ -82,12 +82,8 @@ area_fine init k = fine_then (with_place node.Area) (word_fine word.Area) (fine_
 
 -- signatures and equations
 
-some_word : (o : Option Place) → is_some o ≡ true → (p : Place) × (o ≡ Some p)
-some_word None e = cc
-some_word (Some p) e = (p, refl)
-
 pub colons_of : (t : Token) → is_colons t ≡ true → IsWord word.DoubleColon t
-colons_of t e = by_word (some_word (this_word word.DoubleColon t) e)
+colons_of t e = by_word (some_place (this_word word.DoubleColon t) e)
   where
     by_word : (p : Place) × (this_word word.DoubleColon t ≡ Some p) → IsWord word.DoubleColon t
     by_word (p, d) = (word_kind word.DoubleColon t.place t.kind d).0
