@@ -1,5 +1,5 @@
 -- Which tokens the reader of equations takes.
-use Rattle.std.proofs.Common.{◌≡◌, ℕ, ◌+◌, Bool, true, false, cond, List, [], ◌∷◌, ◌++◌, length, Option, Some, None, is_some, refl, ap, ◌∙◌}
+use Rattle.std.proofs.Common.{◌≡◌, ℕ, ◌+◌, Bool, true, false, cond, List, [], ◌∷◌, ◌++◌, length, Option, Some, None, is_some, refl, sym, ap, subst, ◌∙◌}
 use Rattle.hb_base.specs.declared.place.Place.{Place}
 use Rattle.hb_tokens.specs.declared.token.Token.{Token}
 use Rattle.hb_tokens.specs.declared.token.TokenKind.{TokenKind}
@@ -27,8 +27,8 @@ use Rattle.hb_read_expressions.specs.declared.state.Core.{Core}
 use Rattle.hb_read_expressions.specs.Moves.{move, move_state, move_alone, done, equation_start}
 use Rattle.hb_read_expressions.specs.States.{at, end_post, begun_of}
 use Rattle.hb_read_expressions.specs.Outside.{move_core, after_post}
-use Rattle.hb_read_expressions.specs.Inside.{move_row_left, move_bind_start, with_pats, in_pattern, if_done, next_param}
-use Rattle.hb_read_expressions.specs.Statements.{both}
+use Rattle.hb_read_expressions.specs.Inside.{move_row_left, move_bind_start, move_row_var, move_row_open, move_alt_start, with_pats, in_pattern, if_done, next_param, end_params, row_infix, alt_arrow, stmt_arrow}
+use Rattle.hb_read_expressions.specs.Statements.{both, move_both, move_stmt_start}
 use Rattle.hb_read_expressions.specs.Ends.{row_next, close_top, end_operand}
 use Rattle.std.specs.Prelude.{◌==◌}
 use Rattle.std.proofs.Common.{arith}
@@ -37,16 +37,17 @@ use Rattle.hb_base.specs.declared.name.Name.{Name}
 use Rattle.hb_tokens.specs.declared.word.Word as words
 use Rattle.hb_read_patterns.specs.declared.sort.Sort.{Sort as PatSort}
 use Rattle.hb_read_patterns.specs.declared.sort.Sort.TheVariants as pat_sort
+use Rattle.hb_read_patterns.specs.Sorts.{sort_of as pat_sort_of}
 use Rattle.hb_read_expressions.specs.Exactly.{goes_on}
 use Rattle.hb_read_expressions.proofs.PatStops.{other_stops, start_other}
 use Rattle.hb_read_expressions.proofs.Ending.{ends_before}
 use Rattle.hb_read_expressions.proofs.Exactness.{equation_reader_is_exact}
 use Rattle.hb_read_declarations.specs.Codes.{word_code, kind_code, code, or, member, not}
 use Rattle.hb_read_declarations.proofs.Known.{some_none, equal_is}
-use Rattle.hb_read_declarations.proofs.WorthLaws.{word_same}
-use Rattle.hb_read_declarations.proofs.Equations.{EquationKnown, equation_codes, going_codes, no_colons}
+use Rattle.hb_read_declarations.proofs.WorthLaws.{word_same, word_no_end}
+use Rattle.hb_read_declarations.proofs.Equations.{EquationKnown, equation_codes, going_codes, outside_codes, inside}
 
--- `::` is not taken
+-- `::` and the end are not taken
 
 close_other : (fs : List Frame) (first stands : Place) (nodes : List ExprNode) → close_top fs first stands nodes sort.Other ≡ None
 close_other [] first stands nodes = refl
@@ -70,11 +71,16 @@ core_other (now.FirstField spot first Update) fs nodes place = refl
 core_other (now.RowEnd n) fs nodes place = row_other fs n nodes
 core_other n fs nodes place = refl
 
-abbrev colons : Place → Token
-colons place = record { place = place; kind = kinds.Word word.DoubleColon }
+abbrev token_of : Place → TokenKind → Token
+token_of place k = record { place = place; kind = k }
 
-pat_colons : (r : PatReader) (p : Place) → pat_move r (colons p) ≡ None
-pat_colons r p = other_stops r (colons p) refl
+-- a token that no expression has outside its patterns, and no pattern
+record IsOther (k : TokenKind) : Type 0 where
+  outside : sort_of k ≡ sort.Other
+  within : pat_sort_of k ≡ pat_sort.Other
+
+pat_other : {k : TokenKind} (r : PatReader) (p : Place) → IsOther k → pat_move r (token_of p k) ≡ None
+pat_other {k} r p o = other_stops r (token_of p k) o.within
 
 done_none : (o : Option (List PatNode)) (f : List PatNode → Option State) → ((ns : List PatNode) → f ns ≡ None) → if_done o f ≡ None
 done_none None f g = refl
@@ -83,35 +89,47 @@ done_none (Some ns) f g = g ns
 pattern_none : (core : Core) (o : Option PatReader) (q : Option State) → o ≡ None → q ≡ None → in_pattern core o q ≡ None
 pattern_none core o q d e = ap (λ o. in_pattern core o q) d ∙ e
 
-next_other : (purpose : Purpose) (n : ℕ) (fs : List Frame) (nodes : List ExprNode) (pats : PatReader) (p : Place) → next_param purpose n fs nodes pats (colons p) ≡ None
-next_other (ForRight name place before) n fs nodes pats p = refl
-next_other (ForLambda begun place) n fs nodes pats p = pattern_none (at fs (now.Param (ForLambda begun place) n) nodes) (pat_move apat_reader.start (colons p)) None (pat_colons apat_reader.start p) refl
-next_other (ForRow name place before) n fs nodes pats p = pattern_none (at fs (now.Param (ForRow name place before) n) nodes) (pat_move apat_reader.start (colons p)) None (pat_colons apat_reader.start p) refl
+next_other : {k : TokenKind} (purpose : Purpose) (n : ℕ) (fs : List Frame) (nodes : List ExprNode) (pats : PatReader) (p : Place) → IsOther k → next_param purpose n fs nodes pats (token_of p k) ≡ None
+next_other (ForRight name place before) n fs nodes pats p o = ap (λ s. with_pats pats (end_params (ForRight name place before) n fs nodes s)) o.outside
+next_other {k} (ForLambda begun place) n fs nodes pats p o = pattern_none (at fs (now.Param (ForLambda begun place) n) nodes) (pat_move apat_reader.start (token_of p k)) _ (pat_other apat_reader.start p o) (ap (λ s. with_pats pats (end_params (ForLambda begun place) n fs nodes s)) o.outside)
+next_other {k} (ForRow name place before) n fs nodes pats p o = pattern_none (at fs (now.Param (ForRow name place before) n) nodes) (pat_move apat_reader.start (token_of p k)) _ (pat_other apat_reader.start p o) (ap (λ s. with_pats pats (end_params (ForRow name place before) n fs nodes s)) o.outside)
 
-left_other : (before : ℕ) (place : Place) (fs : List Frame) (nodes : List ExprNode) (pats : PatReader) (p : Place) → move_row_left before place fs nodes pats (colons p) ≡ None
-left_other before place fs nodes pats p = pattern_none (at fs (now.RowLeft before place) nodes) (pat_move pats (colons p)) _ (pat_colons pats p) (done_none (apat_reader.done pats) _ (λ ns. refl))
+left_other : {k : TokenKind} (before : ℕ) (place : Place) (fs : List Frame) (nodes : List ExprNode) (pats : PatReader) (p : Place) → IsOther k → move_row_left before place fs nodes pats (token_of p k) ≡ None
+left_other {k} before place fs nodes pats p o = pattern_none (at fs (now.RowLeft before place) nodes) (pat_move pats (token_of p k)) _ (pat_other pats p o) (done_none (apat_reader.done pats) _ (λ ns. ap (λ s. with_pats pats (row_infix before place fs (nodes ++ wrapped ns) s)) o.outside))
 
-alone_other : (n : Now) (fs : List Frame) (nodes : List ExprNode) (pats : PatReader) (p : Place) → move_alone n fs nodes pats (colons p) ≡ None
-alone_other (now.ParamStart purpose k) fs nodes pats p = pattern_none (at fs (now.Param purpose k) nodes) (pat_move apat_reader.start (colons p)) None (pat_colons apat_reader.start p) refl
-alone_other (now.Param purpose k) fs nodes pats p = pattern_none (at fs (now.Param purpose k) nodes) (pat_move pats (colons p)) _ (pat_colons pats p) (done_none (apat_reader.done pats) _ (λ ns. next_other purpose (k + 1) fs (nodes ++ wrapped ns) pats p))
-alone_other (now.BindStart before) fs nodes pats p = pattern_none (at fs (now.RowLeft before p) nodes) (pat_move apat_reader.start (colons p)) None (pat_colons apat_reader.start p) refl
-alone_other (now.RowVar before place name) fs nodes pats p = next_other (ForRow name place before) 0 fs nodes pats p
-alone_other (now.RowOpen before place) fs nodes pats p = left_other before place fs nodes pats p
-alone_other (now.RowName before place name) fs nodes pats p = next_other (ForRow name place before) 0 fs nodes pats p
-alone_other (now.RowLeft before place) fs nodes pats p = left_other before place fs nodes pats p
-alone_other (now.AltStart begun place before) fs nodes pats p = pattern_none (at fs (now.AltPat begun place before) nodes) (pat_move pat_reader.start (colons p)) None (pat_colons pat_reader.start p) refl
-alone_other (now.AltPat begun place before) fs nodes pats p = pattern_none (at fs (now.AltPat begun place before) nodes) (pat_move pats (colons p)) _ (pat_colons pats p) (done_none (pat_reader.done pats) _ (λ ns. refl))
-alone_other (now.StmtStart begun place before may_end) fs nodes pats p = ap (both (at (frame.Statement begun place before (length nodes) ∷ fs) now.Want nodes) None pat_reader.start) (pat_colons pat_reader.start p)
-alone_other (now.StmtPat begun place before) fs nodes pats p = pattern_none (at fs (now.StmtPat begun place before) nodes) (pat_move pats (colons p)) _ (pat_colons pats p) (done_none (pat_reader.done pats) _ (λ ns. refl))
-alone_other n fs nodes pats p = ap (with_pats pats) (core_other n fs nodes p)
+start_none : {k : TokenKind} (core : Core) (r : PatReader) (p : Place) → IsOther k → in_pattern core (pat_move r (token_of p k)) None ≡ None
+start_none {k} core r p o = pattern_none core (pat_move r (token_of p k)) None (pat_other r p o) refl
 
-state_other : (side : Bool) (core : Core) (pats : PatReader) (p : Place) → move_state side core pats (colons p) ≡ None
-state_other false core pats p = alone_other core.last core.frames core.nodes pats p
-state_other true core pats p = ap (λ o. both core o pats (pat_move pats (colons p))) (core_other core.last core.frames core.nodes p) ∙ ap (both core None pats) (pat_colons pats p)
+alone_other : {k : TokenKind} (n : Now) (fs : List Frame) (nodes : List ExprNode) (pats : PatReader) (p : Place) → IsOther k → move_alone n fs nodes pats (token_of p k) ≡ None
+alone_other (now.ParamStart purpose n) fs nodes pats p o = start_none (at fs (now.Param purpose n) nodes) apat_reader.start p o
+alone_other {k} (now.Param purpose n) fs nodes pats p o = pattern_none (at fs (now.Param purpose n) nodes) (pat_move pats (token_of p k)) _ (pat_other pats p o) (done_none (apat_reader.done pats) _ (λ ns. next_other purpose (n + 1) fs (nodes ++ wrapped ns) pats p o))
+alone_other {k} (now.BindStart before) fs nodes pats p o = ap (move_bind_start before fs nodes pats (token_of p k)) o.outside ∙ start_none (at fs (now.RowLeft before p) nodes) apat_reader.start p o
+alone_other {k} (now.RowVar before place name) fs nodes pats p o = ap (move_row_var before place name fs nodes pats (token_of p k)) o.outside ∙ next_other (ForRow name place before) 0 fs nodes pats p o
+alone_other {k} (now.RowOpen before place) fs nodes pats p o = ap (move_row_open before place fs nodes pats (token_of p k)) o.outside ∙ left_other before place fs nodes pats p o
+alone_other (now.RowName before place name) fs nodes pats p o = next_other (ForRow name place before) 0 fs nodes pats p o
+alone_other (now.RowLeft before place) fs nodes pats p o = left_other before place fs nodes pats p o
+alone_other {k} (now.AltStart begun place before) fs nodes pats p o = ap (move_alt_start begun place before fs nodes pats (token_of p k)) o.outside ∙ start_none (at fs (now.AltPat begun place before) nodes) pat_reader.start p o
+alone_other {k} (now.AltPat begun place before) fs nodes pats p o = pattern_none (at fs (now.AltPat begun place before) nodes) (pat_move pats (token_of p k)) _ (pat_other pats p o) (done_none (pat_reader.done pats) _ (λ ns. ap (λ s. with_pats pats (alt_arrow begun place before fs (nodes ++ wrapped ns) s)) o.outside))
+alone_other {k} (now.StmtStart begun place before may_end) fs nodes pats p o = ap (move_stmt_start begun place before may_end fs nodes pats (token_of p k)) o.outside ∙ ap (both (at (frame.Statement begun place before (length nodes) ∷ fs) now.Want nodes) None pat_reader.start) (pat_other pat_reader.start p o)
+alone_other {k} (now.StmtPat begun place before) fs nodes pats p o = pattern_none (at fs (now.StmtPat begun place before) nodes) (pat_move pats (token_of p k)) _ (pat_other pats p o) (done_none (pat_reader.done pats) _ (λ ns. ap (λ s. with_pats pats (stmt_arrow begun place before fs (nodes ++ wrapped ns) s)) o.outside))
+alone_other n fs nodes pats p o = ap (λ s. with_pats pats (move_core n fs nodes p s)) o.outside ∙ ap (with_pats pats) (core_other n fs nodes p)
 
-pub colons_refused : (s : State) (t : Token) → t.kind ≡ kinds.Word word.DoubleColon → move s t ≡ None
+both_other : {k : TokenKind} (core : Core) (pats : PatReader) (p : Place) → IsOther k → move_both core pats (token_of p k) sort.Other ≡ None
+both_other {k} core pats p o = ap (λ c. both core c pats (pat_move pats (token_of p k))) (core_other core.last core.frames core.nodes p) ∙ ap (both core None pats) (pat_other pats p o)
+
+state_other : {k : TokenKind} (side : Bool) (core : Core) (pats : PatReader) (p : Place) → IsOther k → move_state side core pats (token_of p k) ≡ None
+state_other false core pats p o = alone_other core.last core.frames core.nodes pats p o
+state_other {k} true core pats p o = ap (move_both core pats (token_of p k)) o.outside ∙ both_other core pats p o
+
+other_refused : (s : State) (t : Token) → IsOther t.kind → move s t ≡ None
 unfolding move
-colons_refused s t e = ap (λ k. move_state s.beside s.core s.pats (record { place = t.place; kind = k })) e ∙ state_other s.beside s.core s.pats t.place
+other_refused s t o = state_other s.beside s.core s.pats t.place o
+
+colons_other : IsOther (kinds.Word word.DoubleColon)
+colons_other = record { outside = refl; within = refl }
+
+end_other : IsOther kinds.End
+end_other = record { outside = refl; within = refl }
 
 -- what an equation begins with
 
@@ -267,36 +285,38 @@ equation_ends s r t {nodes} d e = goes_by (goes_on (sort_of t.kind)) (λ g. some
 
 -- all that is known of it
 
-colons_kind : (k : TokenKind) (b : Bool) → member (kind_code k) (43 ∷ []) ≡ b → (k ≡ kinds.Word word.DoubleColon → ⊥) → b ≡ false
-colons_kind k false e f = refl
-colons_kind (kinds.VarId name) true e f = name_colons (name.0 == 70) e
+outside_kind : (k : TokenKind) (b : Bool) → member (kind_code k) outside_codes ≡ b → (IsOther k → ⊥) → b ≡ false
+outside_kind k false e f = refl
+outside_kind (kinds.VarId name) true e f = name_outside (name.0 == 70) e
   where
-    name_colons : (b : Bool) → member (cond b 1 0) (43 ∷ []) ≡ true → true ≡ false
-    name_colons true e = cc
-    name_colons false e = cc
-colons_kind (kinds.ConId name) true e f = cc
-colons_kind (kinds.Op name) true e f = cc
-colons_kind (kinds.Word w) true e f = absurd (f (ap kinds.Word (word_same w word.DoubleColon (equal_codes (word_code w == 43) e))))
+    name_outside : (b : Bool) → member (cond b 1 0) outside_codes ≡ true → true ≡ false
+    name_outside true e = cc
+    name_outside false e = cc
+outside_kind (kinds.ConId name) true e f = cc
+outside_kind (kinds.Op name) true e f = cc
+outside_kind (kinds.Word w) true e f = absurd (f (subst IsOther (ap kinds.Word (sym (word_same w word.DoubleColon (equal_codes (word_code w == 43) (word_code w == 7) refl e)))) colons_other))
   where
-    equal_codes : (b : Bool) → or b false ≡ true → b ≡ true
-    equal_codes true e = refl
-    equal_codes false e = cc
-colons_kind (kinds.Number k) true e f = cc
-colons_kind (kinds.Bits width k) true e f = cc
-colons_kind (kinds.Mark byte) true e f = absurd (no_mark ((byte + 60) == 43) refl e)
+    equal_codes : (b c : Bool) → (word_code w == 7) ≡ c → or b (or c false) ≡ true → b ≡ true
+    equal_codes true c d e = refl
+    equal_codes false true d e = absurd (word_no_end w d)
+    equal_codes false false d e = cc
+outside_kind (kinds.Number k) true e f = cc
+outside_kind (kinds.Bits width k) true e f = cc
+outside_kind (kinds.Mark byte) true e f = absurd (no_mark ((byte + 60) == 43) ((byte + 60) == 7) refl refl e)
   where
-    no_mark : (b : Bool) → ((byte + 60) == 43) ≡ b → or b false ≡ true → ⊥
-    no_mark true d e = grind (arith, nat_tests, d)
-    no_mark false d e = cc
-colons_kind kinds.Dot true e f = cc
-colons_kind kinds.End true e f = cc
+    no_mark : (b c : Bool) → ((byte + 60) == 43) ≡ b → ((byte + 60) == 7) ≡ c → or b (or c false) ≡ true → ⊥
+    no_mark true c d e h = grind (arith, nat_tests, d)
+    no_mark false true d e h = grind (arith, nat_tests, e)
+    no_mark false false d e h = cc
+outside_kind kinds.Dot true e f = cc
+outside_kind kinds.End true e f = absurd (f end_other)
 
 not_false : (b : Bool) → b ≡ false → not b ≡ true
 not_false false e = refl
 not_false true e = cc
 
-pub equation_takes : (s r : State) (t : Token) → move s t ≡ Some r → no_colons (code t) ≡ true
-equation_takes s r t e = not_false (member (code t) (43 ∷ [])) (colons_kind t.kind (member (code t) (43 ∷ [])) refl (λ k. some_none e (colons_refused s t k)))
+pub equation_takes : (s r : State) (t : Token) → move s t ≡ Some r → inside (code t) ≡ true
+equation_takes s r t e = not_false (member (code t) outside_codes) (outside_kind t.kind (member (code t) outside_codes) refl (λ o. some_none e (other_refused s t o)))
 
 equation_nothing : (pats : PatReader) → is_some (done (equation_start pats)) ≡ false
 unfolding done

@@ -29,13 +29,16 @@ equation_codes = 0 ∷ 1 ∷ 2 ∷ 4 ∷ 5 ∷ 100 ∷ []
 abbrev pub going_codes : List ℕ
 going_codes = 0 ∷ 2 ∷ 3 ∷ 4 ∷ 5 ∷ 6 ∷ 20 ∷ 100 ∷ 151 ∷ 156 ∷ []
 
--- `::` stands in no equation
-abbrev pub no_colons : ℕ → Bool
-no_colons c = not (member c (43 ∷ []))
+-- `::` and the end stand in no equation
+abbrev pub outside_codes : List ℕ
+outside_codes = 43 ∷ 7 ∷ []
+
+abbrev pub inside : ℕ → Bool
+inside c = not (member c outside_codes)
 
 -- what is to be known of the reader of equations
 abbrev pub EquationKnown : PatReader → Type 0
-EquationKnown pats = Known (equation_reader pats) EquationOf false equation_codes (λ c. member c going_codes) no_colons
+EquationKnown pats = Known (equation_reader pats) EquationOf false equation_codes (λ c. member c going_codes) inside
 
 -- a definition of one row, at its first token
 pub data EquationRead : List Token → Bind → List Token → Type 0 where
@@ -58,7 +61,7 @@ pub made_equation : {ts us : List Token} {v : List ExprNode} → Made EquationRe
 made_equation m = made_of m.is m.read
 
 abbrev pub equation_fine : (pats : PatReader) → EquationKnown pats → Fine (an_equation pats) (Made EquationRead bind_of)
-equation_fine pats k = fine_again bind_nodes valued (fine_by (λ ts v us h. equation_made h) (λ ts v us h. made_equation h) (record { null = false; first = equation_codes; goes = λ c. member c going_codes; uses = no_colons; known = k }))
+equation_fine pats k = fine_again bind_nodes valued (fine_by (λ ts v us h. equation_made h) (λ ts v us h. made_equation h) (record { null = false; first = equation_codes; goes = λ c. member c going_codes; uses = inside; known = k }))
 
 -- blocks of equations
 

@@ -1,5 +1,5 @@
 -- All that is known of the reader of initialisers over that of expressions.
-use Rattle.std.proofs.Common.{◌≡◌, ℕ, ◌+◌, Bool, true, false, cond, List, [], ◌∷◌, ◌++◌, Option, Some, None, is_some, refl, ap, subst}
+use Rattle.std.proofs.Common.{◌≡◌, ℕ, ◌+◌, Bool, true, false, cond, List, [], ◌∷◌, ◌++◌, Option, Some, None, is_some, refl, ap, subst, ◌∙◌}
 use Rattle.std.specs.Prelude.{◌==◌}
 use Rattle.hb_base.specs.declared.name.Name.{Name}
 use Rattle.hb_base.specs.declared.place.Place.{Place}
@@ -29,11 +29,12 @@ use Rattle.hb_read_declarations.specs.Nodes.{valued, named}
 use Rattle.hb_read_declarations.specs.Worths.{var, this_word, mark}
 use Rattle.hb_read_declarations.specs.Readers.{Out}
 use Rattle.hb_read_declarations.specs.Initials.{Frame, InEach, InField, Now, Want, EachWord, EachName, FieldsWord, Field, FieldName, Cell, Over, InitState, at, put, put_cell, is_bar, is_close, is_each, is_fields, next, in_cell, move_now, done_now, init_reader}
-use Rattle.hb_read_declarations.proofs.Known.{Known, some_is, true_false, not_some, equal_is, known_by, member_right}
+use Rattle.hb_read_declarations.proofs.Known.{Known, some_is, true_false, not_some, equal_is, or_cases, known_by, member_right}
 use Rattle.hb_read_declarations.proofs.Fine.{worth_known}
+use Rattle.hb_read_declarations.proofs.WorthLaws.{var_code, word_is_code, mark_code}
 use Rattle.hb_read_declarations.specs.Exactly.{Made}
 use Rattle.hb_read_declarations.proofs.Lists.{made_again, again_made}
-use Rattle.hb_read_declarations.proofs.Equations.{going_codes, no_colons}
+use Rattle.hb_read_declarations.proofs.Equations.{going_codes, inside}
 use Rattle.hb_read_declarations.proofs.EquationTokens.{equation_ends, equation_takes}
 use Rattle.hb_read_declarations.proofs.InitRuns.{Cells, next_cases}
 use Rattle.hb_read_declarations.proofs.InitExact.{Exprs, word_holds, close_holds, sound}
@@ -103,7 +104,7 @@ expr_nothing : (pats : PatReader) → is_some (done (expr_start pats)) ≡ false
 unfolding done
 expr_nothing pats = refl
 
-expr_known : (pats : PatReader) → Known (expr_reader pats) ExprOf false expr_codes (λ c. member c going_codes) no_colons
+expr_known : (pats : PatReader) → Known (expr_reader pats) ExprOf false expr_codes (λ c. member c going_codes) inside
 expr_known pats = record {
   exact = expr_reader_is_exact pats;
   begins = λ {r} {t} e. expr_begins pats t e;
@@ -122,12 +123,12 @@ abbrev pub an_expr : PatReader → Reader State Out
 an_expr pats = worth_of valued (expr_reader pats)
 
 abbrev pub ExprKnown : {S : Type 0} → Reader S Out → Type 0
-ExprKnown expr = Known expr Exprs false expr_codes (λ c. member c going_codes) no_colons
+ExprKnown expr = Known expr Exprs false expr_codes (λ c. member c going_codes) inside
 
 an_expr_known : (pats : PatReader) → ExprKnown (an_expr pats)
 an_expr_known pats = worth_known_by (known_by (λ ts v us h. expr_made h) (λ ts v us h. made_expr h) (expr_known pats))
   where
-    worth_known_by : Known (expr_reader pats) (Made ReadsExpr expr_nodes) false expr_codes (λ c. member c going_codes) no_colons → ExprKnown (an_expr pats)
+    worth_known_by : Known (expr_reader pats) (Made ReadsExpr expr_nodes) false expr_codes (λ c. member c going_codes) inside → ExprKnown (an_expr pats)
     worth_known_by k = known_by (λ ts v us h. made_again valued h) (λ ts v us h. again_made expr_nodes valued h) (worth_known valued k)
 
 null_none : {A : Type 0} (o : Option A) → is_some o ≡ false → o ≡ None
@@ -200,18 +201,32 @@ also_init c e = member_right c (29 ∷ 30 ∷ []) expr_codes e
 init_begins : {S : Type 0} {expr : Reader S Out} → ExprKnown expr → (t : Token) {y : InitState S} → move_now expr [] Want [] t ≡ Some y → member (code t) init_codes ≡ true
 init_begins {expr} k t e = begin_if (is_each t) (at [] EachWord []) _ e (λ b. ap (λ k. member (kind_code k) init_codes) (word_holds word.Each t b)) (λ e. begin_if (is_fields t) (at [] FieldsWord []) _ e (λ b. ap (λ k. member (kind_code k) init_codes) (word_holds word.Fields t b)) (λ e. mapped_from (λ r. at [] (Cell t.place r) []) (expr.move expr.start t) e (λ r d. also_init (code t) (k.begins d))))
 
-next_ends : {S : Type 0} (fs : List Frame) (out : Out) (t : Token) {y : InitState S} → next fs out t ≡ Some y → no_colons (code t) ≡ true
-next_ends fs out t e = next_cases fs out t e (λ b. ap (λ k. no_colons (kind_code k)) (word_holds word.Bar t b)) (λ b. ap (λ k. no_colons (kind_code k)) (close_holds t b))
+next_ends : {S : Type 0} (fs : List Frame) (out : Out) (t : Token) {y : InitState S} → next fs out t ≡ Some y → inside (code t) ≡ true
+next_ends fs out t e = next_cases fs out t e (λ b. ap (λ k. inside (kind_code k)) (word_holds word.Bar t b)) (λ b. ap (λ k. inside (kind_code k)) (close_holds t b))
 
-cell_ends : {S : Type 0} {expr : Reader S Out} → ExprKnown expr → (fs : List Frame) (p : Place) (s : S) (out : Out) (t : Token) (o : Option S) (q : Option Out) {y : InitState S} → expr.move s t ≡ o → in_cell fs p out o q t ≡ Some y → no_colons (code t) ≡ true
+cell_ends : {S : Type 0} {expr : Reader S Out} → ExprKnown expr → (fs : List Frame) (p : Place) (s : S) (out : Out) (t : Token) (o : Option S) (q : Option Out) {y : InitState S} → expr.move s t ≡ o → in_cell fs p out o q t ≡ Some y → inside (code t) ≡ true
 cell_ends k fs p s out t (Some r) q d e = k.takes d
 cell_ends k fs p s out t None (Some c) d e = next_ends fs (put_cell out p c) t e
 cell_ends k fs p s out t None None d e = cc
 
-init_ends : {S : Type 0} {expr : Reader S Out} → ExprKnown expr → (fs : List Frame) (n : Now S) (out : Out) (t : Token) {v : Out} {y : InitState S} → done_now expr fs n out ≡ Some v → move_now expr fs n out t ≡ Some y → no_colons (code t) ≡ true
+-- one code alone
+one_inside : (c x : ℕ) → member c (x ∷ []) ≡ true → inside x ≡ true → inside c ≡ true
+one_inside c x e d = or_cases (c == x) false e (λ h. ap inside (equal_is c x (c == x) refl h) ∙ d) (λ h. cc)
+
+init_ends : {S : Type 0} {expr : Reader S Out} → ExprKnown expr → (fs : List Frame) (n : Now S) (out : Out) (t : Token) {v : Out} {y : InitState S} → done_now expr fs n out ≡ Some v → move_now expr fs n out t ≡ Some y → inside (code t) ≡ true
 init_ends {expr} k fs (Cell p s) out t d e = cell_ends k fs p s out t (expr.move s t) (expr.done s) refl e
 init_ends k fs Over out t d e = next_ends fs out t e
 init_ends k fs n out t d e = cc
+
+init_takes : {S : Type 0} {expr : Reader S Out} → ExprKnown expr → (fs : List Frame) (n : Now S) (out : Out) (t : Token) {y : InitState S} → move_now expr fs n out t ≡ Some y → inside (code t) ≡ true
+init_takes {expr} k fs Want out t e = begin_if (is_each t) (at fs EachWord out) _ e (λ b. ap (λ k. inside (kind_code k)) (word_holds word.Each t b)) (λ e. begin_if (is_fields t) (at fs FieldsWord out) _ e (λ b. ap (λ k. inside (kind_code k)) (word_holds word.Fields t b)) (λ e. mapped_from (λ r. at fs (Cell t.place r) out) (expr.move expr.start t) e (λ r d. k.takes d)))
+init_takes k fs EachWord out t e = mapped_from (λ n. at fs EachName (out ++ named n)) (var t) e (λ n d. one_inside (code t) 0 (var_code t n d) refl)
+init_takes k fs EachName out t e = mapped_from (λ p. at (InEach ∷ fs) Want out) (this_word word.RightArrow t) e (λ p d. one_inside (code t) 48 (word_is_code word.RightArrow t p d) refl)
+init_takes k fs FieldsWord out t e = mapped_from (λ p. at fs (Field 0) out) (mark 91 t) e (λ p d. one_inside (code t) 151 (mark_code 91 t p d) refl)
+init_takes k fs (Field n) out t e = mapped_from (λ a. at fs (FieldName n) (out ++ named a)) (var t) e (λ a d. one_inside (code t) 0 (var_code t a d) refl)
+init_takes k fs (FieldName n) out t e = mapped_from (λ p. at (InField n ∷ fs) Want out) (this_word word.LeftArrow t) e (λ p d. one_inside (code t) 47 (word_is_code word.LeftArrow t p d) refl)
+init_takes {expr} k fs (Cell p s) out t e = cell_ends k fs p s out t (expr.move s t) (expr.done s) refl e
+init_takes k fs Over out t e = next_ends fs out t e
 
 pub init_known : {S : Type 0} {expr : Reader S Out} → ExprKnown expr → InitKnown (init_reader expr)
 init_known {expr} k = record {
@@ -222,7 +237,7 @@ init_known {expr} k = record {
   };
   begins = λ {r} {t} e. init_begins k t e;
   ends = λ {s} {r} {t} h d e. init_ends k s.frames s.now s.nodes t d e;
-  takes = λ e. refl;
+  takes = λ {s} {r} {t} e. init_takes k s.frames s.now s.nodes t e;
   nothing = refl;
 }
 

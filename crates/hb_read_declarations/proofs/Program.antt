@@ -22,11 +22,12 @@ use Rattle.hb_read_patterns.specs.declared.reader.PatReader.{PatReader}
 use Rattle.hb_read_declarations.specs.Codes.{kind_code, code, member, not}
 use Rattle.hb_read_declarations.specs.declared.node.DeclNode.{DeclNode}
 use Rattle.hb_read_declarations.specs.declared.node.DeclNode.TheVariants as node
-use Rattle.hb_read_declarations.specs.Combined.{one, OneReads, one_token, EmptyReads, no_token, ThenReads, one_then, EitherReads, left_one, right_one, at_place, ForkReads, with_mark, without_mark}
+use Rattle.hb_read_declarations.specs.Combined.{one, in_order, OneReads, one_token, EmptyReads, no_token, ThenReads, one_then, EitherReads, left_one, right_one, at_place, ForkReads, with_mark, without_mark}
 use Rattle.hb_read_declarations.specs.Nodes.{counted, closed, named, number_of, type_of, sig_of, bind_of, init_nodes, start_of, decl_nodes, program_nodes}
-use Rattle.hb_read_declarations.specs.Worths.{this_word, kind_end, end_of}
-use Rattle.hb_read_declarations.specs.Readers.{Out, second_of, block, append, with_node, with_place, sig_names, sig_nodes, start_reader, area_reader, is_colons, line_reader, decl_reader, program_out, program_reader}
-use Rattle.hb_read_declarations.proofs.Known.{Known, some_is, some_place}
+use Rattle.hb_read_declarations.specs.Worths.{this_word, kind_mark, mark, kind_end, end_of}
+use Rattle.hb_read_declarations.specs.Readers.{Out, BlockState, DeclState, ProgramState, second_of, block, append, with_node, with_place, sig_names, sig_nodes, start_reader, area_reader, is_colons, line_reader, decl_reader, program_out, program_reader}
+use Rattle.hb_read_declarations.proofs.Known.{Known, some_is, some_place, true_false, not_some}
+use Rattle.hb_read_declarations.proofs.ThenLaws.{then_whole, one_whole, one_never}
 use Rattle.hb_read_declarations.proofs.ForkLaws.{Marks}
 use Rattle.hb_read_declarations.proofs.Fine.{Fine, fine_by, fine_one, fine_then, fine_either, fine_empty, fine_fork}
 use Rattle.hb_read_declarations.proofs.Lists.{made, Block, no_thing, empty_thing, last_in, more_in, fine_perhaps, fine_block, fine_again, fine_in}
@@ -36,18 +37,18 @@ use Rattle.hb_read_declarations.proofs.Smaller.{a_var_fine, align_fine, some_var
 use Rattle.hb_read_declarations.proofs.Typing.{type_fine, Qualified, QualifiedRead}
 use Rattle.hb_read_declarations.proofs.Plain.{both_are, DeclMade, FixityRaw, fixity_from, fixity_fine, DataRaw, data_from, data_fine, BitdataRaw, bitdata_from, bitdata_fine, StructRaw, struct_from, struct_fine, PortRaw, port_from, port_fine}
 use Rattle.hb_read_declarations.proofs.Blocked.{qualified_of, qualified_fine, SigNamesRaw, sig_names_fine, class_head, ClassHead, ClassRaw, class_from, class_fine, some_types, InstanceRaw, instance_from, instance_fine}
-use Rattle.hb_read_declarations.proofs.Equations.{EquationKnown, EquationRead, equation_read, equation_fine}
+use Rattle.hb_read_declarations.proofs.Equations.{EquationKnown, EquationRead, equation_read, equation_fine, inside}
 
 -- what an initialiser begins with: a word, or an expression
 abbrev pub init_codes : List ℕ
 init_codes = 29 ∷ 30 ∷ 0 ∷ 2 ∷ 4 ∷ 5 ∷ 100 ∷ 45 ∷ 21 ∷ 26 ∷ 25 ∷ 23 ∷ []
 
--- what is to be known of the reader of initialisers; `::` does not go on with a whole one
+-- what is to be known of the reader of initialisers; it takes neither `::` nor the end
 abbrev pub InitKnown : {S : Type 0} → Reader S Out → Type 0
-InitKnown init = Known init (Made ReadsInit init_nodes) false init_codes (λ c. not (member c (43 ∷ []))) (λ c. true)
+InitKnown init = Known init (Made ReadsInit init_nodes) false init_codes inside inside
 
 abbrev pub init_fine : {S : Type 0} (init : Reader S Out) → InitKnown init → Fine init (Made ReadsInit init_nodes)
-init_fine init k = record { null = false; first = init_codes; goes = λ c. not (member c (43 ∷ [])); uses = λ c. true; known = k }
+init_fine init k = record { null = false; first = init_codes; goes = inside; uses = inside; known = k }
 
 -- areas
 
@@ -205,6 +206,18 @@ program_fine pats init k i = fine_by (λ ts v us h. program_from h) (λ ts v us 
 -- the reader of a program reads just what the grammar says
 pub program_exact : {S : Type 0} (pats : PatReader) (init : Reader S Out) → EquationKnown pats → InitKnown init → Exact (program_reader pats init) (Made ProgramRead program_nodes)
 program_exact pats init k i = (program_fine pats init k i).known.exact
+
+-- where the end is taken, a program is whole
+
+end_worth : (t : Token) → IsEnd t → (m : ℕ) → mark m t ≡ None
+end_worth t e m = ap (kind_mark m t.place) e
+
+never_end : {S : Type 0} (pats : PatReader) (init : Reader S Out) → EquationKnown pats → InitKnown init → (t : Token) → IsEnd t → (s : BlockState (DeclState S)) → (block (decl_reader pats init)).move s t ≡ None
+never_end pats init k i t e s = not_some ((block (decl_reader pats init)).move s t) (λ r m. true_false ((decls_fine pats init k i).known.takes {s = s} {r = r} {t = t} m) (ap (λ kind. (decls_fine pats init k i).uses (kind_code kind)) e))
+
+pub whole_end : {S : Type 0} (pats : PatReader) (init : Reader S Out) → EquationKnown pats → InitKnown init → (t : Token) → IsEnd t → (s r : ProgramState S) → (program_reader pats init).move s t ≡ Some r → is_some ((program_reader pats init).done r) ≡ true
+whole_end pats init k i t e =
+    then_whole second_of (one (mark 123)) (in_order program_out (block (decl_reader pats init)) (one end_of)) (one_never (mark 123) t (end_worth t e 123)) (then_whole program_out (block (decl_reader pats init)) (one end_of) (never_end pats init k i t e) (one_whole end_of t))
 
 -- where nothing is left, it is a program
 

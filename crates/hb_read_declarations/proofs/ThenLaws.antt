@@ -3,7 +3,7 @@ use Rattle.std.proofs.Common.{◌≡◌, ℕ, Bool, true, false, List, ◌∷◌
 use Rattle.hb_tokens.specs.declared.token.Token.{Token}
 use Rattle.hb_grammar.specs.Reading.{Reader, Runs, stop, take, Reached, at_start, after, Exact}
 use Rattle.hb_read_declarations.specs.Codes.{code, or, member, apart, also, also_in}
-use Rattle.hb_read_declarations.specs.Combined.{mapped, Then, First, Second, second, first_or_second, then_move, both, then_done, in_order, ThenReads, one_then}
+use Rattle.hb_read_declarations.specs.Combined.{mapped, Then, First, Second, second, first_or_second, then_move, one_move, both, then_done, in_order, ThenReads, one_then}
 use Rattle.hb_read_declarations.proofs.Known.{Known, some_is, Of, of, mapped_of, or_left, or_right, also_right, member_left, member_right, member_also, keeps_apart, run_before, Ended, null_is}
 
 -- what a move out of the first leads to
@@ -186,3 +186,34 @@ then_known {a} {b} f ka kb e = record {
   takes = λ {s} {r} {t} m. then_takes s t ka kb m;
   nothing = both_null f (a.done a.start) (b.done b.start) ka.nothing kb.nothing;
 }
+
+-- A token that the first never takes, and behind which the second is whole wherever it takes it: behind it both are whole.
+
+behind : {A V B W X : Type 0} {t : Token} (f : V → W → X) (a : Reader A V) (b : Reader B W) → ((s r : B) → b.move s t ≡ Some r → is_some (b.done r) ≡ true) → (v : V) (s : B) (o : Option B) {r : Then A V B} → b.move s t ≡ o → second v o ≡ Some r → is_some (then_done f a b r) ≡ true
+behind f a b ends v s None d e = cc
+behind {A} {V} {B} f a b ends v s (Some q) d e = let P : Then A V B → Type 0 = λ r. is_some (then_done f a b r) ≡ true in subst P (some_is e) (mapped_some (f v) (b.done q) (ends s q d))
+  where
+    mapped_some : {C D : Type 0} (g : C → D) (o : Option C) → is_some o ≡ true → is_some (mapped g o) ≡ true
+    mapped_some g (Some c) e = refl
+    mapped_some g None e = cc
+
+pub then_whole : {A V B W X : Type 0} {t : Token} (f : V → W → X) (a : Reader A V) (b : Reader B W) → ((s : A) → a.move s t ≡ None) → ((s r : B) → b.move s t ≡ Some r → is_some (b.done r) ≡ true) → (s r : Then A V B) → then_move a b s t ≡ Some r → is_some (then_done f a b r) ≡ true
+then_whole f a b never ends (Second v s) r e = behind f a b ends v s (b.move s _) refl e
+then_whole {t} f a b never ends (First s) r e = by_done (a.done s) (sym (ap (λ o. first_or_second o (a.done s) (b.move b.start t)) (never s)) ∙ e)
+  where
+    by_done : (o : Option _) → first_or_second None o (b.move b.start t) ≡ Some r → is_some (then_done f a b r) ≡ true
+    by_done None d = cc
+    by_done (Some v) d = behind f a b ends v b.start (b.move b.start t) refl d
+
+-- behind its token, one token is whole
+pub one_whole : {V : Type 0} (worth : Token → Option V) (t : Token) (s r : Option V) → one_move worth s t ≡ Some r → is_some r ≡ true
+one_whole worth t (Some v) r e = cc
+one_whole worth t None r e = by_of (mapped_of Some (worth t) e)
+  where
+    by_of : Of Some (worth t) r → is_some r ≡ true
+    by_of (of v d g) = sym (ap is_some g)
+
+-- a token that is worth nothing is not taken
+pub one_never : {V : Type 0} (worth : Token → Option V) (t : Token) → worth t ≡ None → (s : Option V) → one_move worth s t ≡ None
+one_never worth t e (Some v) = refl
+one_never worth t e None = ap (mapped Some) e

@@ -214,6 +214,16 @@ word_back word.DoubleArrow = refl
 pub word_same : (v w : Word) → (word_code v == word_code w) ≡ true → v ≡ w
 word_same v w e = sym (word_back v) ∙ (ap (word_at words) (equal (word_code v) (word_code w) e) ∙ word_back w)
 
+-- no word has the code of the end
+pub word_no_end : (w : Word) → (word_code w == 7) ≡ true → ⊥
+word_no_end w e =
+    let d : word_code w ≡ 7 = equal (word_code w) 7 e in
+    let area : w ≡ word.Area = sym (word_back w) ∙ ap (word_at words) d in
+    seven_ten d (ap word_code area)
+  where
+    seven_ten : {n : ℕ} → n ≡ 7 → n ≡ 10 → ⊥
+    seven_ten e d = omega (arith, e, d)
+
 pub word_kind : (w : Word) (p : Place) (k : TokenKind) {x : Place} → kind_word w p k ≡ Some x → (k ≡ AWord w) × (x ≡ p)
 word_kind w p (AWord v) {x} e = by_parts (if_some (word_code v == word_code w) p e)
   where
