@@ -19,7 +19,7 @@ leads_reached : {State Value : Type 0} {reader : Reader State Value} {s r : Stat
 leads_reached here reached = reached
 leads_reached (taken h l) reached = leads_reached l (after reached h)
 
-leads_runs : {State Value : Type 0} {reader : Reader State Value} {s r : State} {pre ts us : List Token} {a : Value} → LeadsTo reader s pre r → Runs reader r ts a us → Runs reader s (pre ++ ts) a us
+pub leads_runs : {State Value : Type 0} {reader : Reader State Value} {s r : State} {pre ts us : List Token} {a : Value} → LeadsTo reader s pre r → Runs reader r ts a us → Runs reader s (pre ++ ts) a us
 leads_runs here runs = runs
 leads_runs (taken h l) runs = take h (leads_runs l runs)
 
