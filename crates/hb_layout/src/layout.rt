@@ -9,8 +9,8 @@ ghost use Rattle.hb_layout.specs.Outcomes.{IsLaidOut};
 
 use crate::profile::first_left_out;
 use crate::progress::Progress;
-use hb_base::{Code, Fault, List, Memory, Place, Refusal, Text};
-use hb_tokens::{Token, Tokens};
+use hb_base::{Code, Fault, List, Memory, Place};
+use hb_tokens::{Token, Tokens, refused};
 use std::alloc::Global;
 
 /// What the rules of layout give of a list of tokens.
@@ -40,20 +40,6 @@ fn lay_out(alloc: Global, tokens: &[Token]) -> Result<Outcome, Memory>
     match deep {
         Some(place) => Ok(Outcome::Deep(place)),
         None => Ok(Outcome::Given(draft.given)),
-    }
-}
-
-/// The refusal with this detail.
-fn refused(alloc: Global, code: Code, place: Place, detail: &[u8]) -> Fault
-    ensures { IfRefused (λ refusal. refusal ≡ record { code = code; place = place; detail = detail.now }) result }
-{
-    match Vec::from_slice(alloc, detail) {
-        Ok(bytes) => Fault::Refused(Refusal {
-            code,
-            place,
-            detail: Text::of(bytes),
-        }),
-        Err(_error) => Fault::Memory,
     }
 }
 

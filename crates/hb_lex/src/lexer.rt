@@ -12,8 +12,8 @@ use crate::bytes::{after, before, place_after};
 use crate::comment::inside;
 use crate::piece::{Piece, Shape, Wrong};
 use crate::scan::piece_at;
-use hb_base::{Code, Fault, Memory, Names, Place, Refusal, Text};
-use hb_tokens::{Token, TokenKind};
+use hb_base::{Code, Fault, Memory, Names, Place};
+use hb_tokens::{Token, TokenKind, refused};
 use std::alloc::Global;
 
 /// The tokens read so far, and where the next byte stands. A dot right there may be a selection where `glued` says
@@ -65,20 +65,6 @@ fn takes_dot(shape: Shape, text: &[u8]) -> bool
         Shape::ConId => true,
         Shape::Mark(byte) => byte == b')' || byte == b']',
         _ => false,
-    }
-}
-
-/// The refusal of these parts, where there is memory for its detail.
-pub fn refused(alloc: Global, code: Code, place: Place, detail: &[u8]) -> Fault
-    ensures { IfRefused (λ refusal. refusal ≡ record { code = code; place = place; detail = detail.now }) result }
-{
-    match Vec::from_slice(alloc, detail) {
-        Ok(bytes) => Fault::Refused(Refusal {
-            code,
-            place,
-            detail: Text::of(bytes),
-        }),
-        Err(_) => Fault::Memory,
     }
 }
 

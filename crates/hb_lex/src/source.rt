@@ -10,9 +10,9 @@ ghost use Rattle.hb_tokens.specs.Faults.{IfRefused};
 ghost use Rattle.hb_lex.specs.Answers.{IsNotRefused, IsThisRefusal};
 
 use crate::bytes::{Class, after, before, byte_at, place_after, run};
-use crate::lexer::{Lexer, refused};
+use crate::lexer::Lexer;
 use hb_base::{Code, Fault, Names, Place};
-use hb_tokens::{Token, TokenKind, Tokens};
+use hb_tokens::{Token, TokenKind, Tokens, refused};
 use std::alloc::Global;
 
 /// Where the first byte of a source stands.
