@@ -1,9 +1,10 @@
-ghost use Rattle.std.specs.Prelude.{◌≡◌, ◌≤◌, ◌<◌, ◌^◌, ◌+◌, ◌*◌, List, length, IfOk, IfErr, IsTrue};
+ghost use Rattle.std.specs.Prelude.{◌≡◌, ◌≤◌, ◌<◌, ◌^◌, ◌+◌, ◌*◌, List, ℕ, length, IfOk, IfErr, IsTrue, MatchResult};
 ghost use Rattle.hb_base.specs.declared.refusal.Refusal.{Refusal as ARefusal};
+ghost use Rattle.hb_base.specs.declared.refusal.Fault.TheVariants.{Memory as OutOfMemory};
 ghost use Rattle.hb_tokens.specs.Ends.{ends_once};
 ghost use Rattle.hb_tokens.specs.declared.token.Token.{Token as AToken};
 ghost use Rattle.hb_tokens.specs.Faults.{IfRefused};
-ghost use Rattle.hb_front.specs.Front.{LaysOut, FirstFault};
+ghost use Rattle.hb_front.specs.Front.{SpellsTokens, LaysOut, LayingFault};
 
 use hb_base::{Fault, Names};
 use hb_layout::offside;
@@ -11,16 +12,35 @@ use hb_lex::lex;
 use hb_tokens::Tokens;
 use std::alloc::Global;
 
+/// The tokens of a source of at most 1 MiB. New names go into the table.
+fn spelled(alloc: Global, bytes: &[u8], names: &mut Names) -> Result<Tokens, Fault>
+    requires few { length bytes.now ≤ 1048576 }
+    requires names { length names.old < 2 ^ 31 }
+    ensures found { IfOk result (λ tokens. SpellsTokens names.old bytes.now names.new tokens.list) }
+    ensures faults { IfErr result (IfRefused (LayingFault names.old bytes.now)) }
+    ensures only { (table : List (List ℕ)) (ts : List AToken) → SpellsTokens names.old bytes.now table ts → MatchResult result (λ answer. (answer.list ≡ ts) × (names.new ≡ table)) (λ fault. fault ≡ OutOfMemory) }
+    ensures few { IfOk result (λ tokens. length tokens.list ≤ length bytes.now + 1) }
+    ensures ends { IfOk result (λ tokens. IsTrue (ends_once tokens.list)) }
+{
+    let tokens = lex(alloc, bytes, names)?;
+    // That the texts of the table are distinct is what `count` promises: so no other tokens are spelled.
+    names.count();
+    Ok(tokens)
+}
+
 /// The laid-out tokens of a source of at most 1 MiB. New names go into the table. A fault is E01, E02, E05, E03 or
 /// E29, the first of these that there is, in this order.
 pub fn laid_tokens(alloc: Global, bytes: &[u8], names: &mut Names) -> Result<Tokens, Fault>
     requires few { length bytes.now ≤ 1048576 }
     requires names { length names.old < 2 ^ 31 }
-    ensures found { IfOk result (λ laid. LaysOut bytes.now names.new laid.list) }
-    ensures faults { IfErr result (IfRefused (FirstFault bytes.now names.new)) }
+    ensures found { IfOk result (λ laid. LaysOut names.old bytes.now names.new laid.list) }
+    ensures faults { IfErr result (IfRefused (LayingFault names.old bytes.now)) }
+
+    // What is laid out so is answered, and no other table has its names.
+    ensures only { (table : List (List ℕ)) (ts : List AToken) → LaysOut names.old bytes.now table ts → MatchResult result (λ answer. (answer.list ≡ ts) × (names.new ≡ table)) (λ fault. fault ≡ OutOfMemory) }
     ensures ends { IfOk result (λ laid. IsTrue (ends_once laid.list)) }
 {
-    let tokens = lex(alloc, bytes, names)?;
+    let tokens = spelled(alloc, bytes, names)?;
     let laid = offside(alloc, &tokens)?;
     Ok(laid)
 }

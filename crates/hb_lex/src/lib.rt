@@ -17,4 +17,4 @@ mod source;
 mod tests;
 mod word;
 
-pub use source::lex;
+pub use source::{lex, text_end};

@@ -42,6 +42,14 @@ fn check_bytes(alloc: Global, bytes: &[u8]) -> Result<(), Fault>
     Err(refused(alloc, Code::E01, place, &detail))
 }
 
+/// Where a text of at most 1 MiB ends: the place that a next byte would have.
+pub fn text_end(bytes: &[u8]) -> Place
+    requires few { length bytes.now ≤ 1048576 }
+    ensures { result ≡ place_after first_place bytes.now }
+{
+    place_after(FIRST, bytes)
+}
+
 /// The tokens that the bytes of a source spell. Their names are taken into the table in the order in which they first
 /// occur. A byte that no source has is E01, with the byte as its detail; what is no token is E02. The table keeps its
 /// old names in their places, whatever the answer.
