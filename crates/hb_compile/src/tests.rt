@@ -1,44 +1,56 @@
-ghost use Rattle.std.specs.Prelude.{◌≤◌, IfOk, length};
-ghost use Rattle.hb_second_code.specs.Rules.{IsProgram};
+ghost use Rattle.std.specs.Prelude.{◌≤◌, [], ◌∷◌, IfOk, codes, length};
+ghost use Rattle.hb_base.specs.declared.port.Dir.TheVariants.{In, Out};
+ghost use Rattle.hb_second_code.specs.Rules.{AreStatements, IsProgram};
 
 use crate::compile;
-use hb_base::{Dir, Memory};
+use hb_base::{Dir, List, Memory, Port, Text};
 use hb_image::Image;
-use hb_second::{Source, read_source};
+use hb_second::{Argument, Atom, Source, Statement};
 use std::alloc::Global;
 use std::test::Fail;
 
-/// The source that a text spells.
-#[tactic(auto, using(hb_second_code::proofs::Program::program_of))]
-fn program(alloc: Global, text: &[u8]) -> Result<Source, Fail>
-    requires { length text.now ≤ 1048576 }
+/// The ports of an echo, and these statements.
+#[tactic(auto, using(hb_second_code::proofs::Examples::echo_program))]
+fn source(alloc: Global, statements: &[Statement]) -> Result<Source, Fail>
+    requires few { length statements.now ≤ 1000 }
+    requires fits { AreStatements (record { name = codes "rx"; dir = In; width = 1; address = 0x8000_0000 } ∷ record { name = codes "tx"; dir = Out; width = 1; address = 0x8000_0004 } ∷ []) 0 statements.now }
     ensures { IfOk result (λ source. IsProgram source) }
 {
-    match read_source(alloc, text) {
-        Ok(source) => Ok(source),
-        Err(_) => Err(Fail::from("the text is no source")),
-    }
+    let mut ports = List::of(Vec::new(alloc));
+    ports.push(Port {
+        name: Text::of(Vec::from_slice(alloc, b"rx")?),
+        dir: Dir::In,
+        width: 1,
+        address: 0x8000_0000,
+    })?;
+    ports.push(Port {
+        name: Text::of(Vec::from_slice(alloc, b"tx")?),
+        dir: Dir::Out,
+        width: 1,
+        address: 0x8000_0004,
+    })?;
+    let statements = List::of(Vec::from_slice(alloc, statements)?);
+    Ok(Source { ports, statements })
 }
 
-/// The image of a text.
-fn compiled(alloc: Global, text: &[u8]) -> Result<Image, Fail>
-    requires { length text.now ≤ 1048576 }
+/// The image of a source.
+fn compiled(alloc: Global, source: &Source) -> Result<Image, Fail>
+    requires { IsProgram source.now }
 {
-    let source = program(alloc, text)?;
-    let image = compile(alloc, &source).map_err(|_: Memory| "no memory")?;
+    let image = compile(alloc, source).map_err(|_: Memory| "no memory")?;
     Ok(image)
 }
 
 /// The words are those that the RISC-V tools give for the text beside them.
 #[test]
 fn one_write_has_the_words_of_the_standard_tools(rt: HostRuntime) -> Result<(), Fail> {
-    let text =
-        b"{ port tx :: Out (Bit 8) at X80000000; main :: M Unit; main = do { writePort tx X41 } }";
-    let image = compiled(rt.alloc(), text)?;
+    let statements = [Statement::Write(1, Argument::Atom(Atom::Literal(0x41)))];
+    let source = source(rt.alloc(), &statements)?;
+    let image = compiled(rt.alloc(), &source)?;
     let words = [
-        // lui x5, 0x80000; addi x5, x5, 0
+        // lui x5, 0x80000; addi x5, x5, 4
         0x8000_02B7,
-        0x0002_8293,
+        0x0042_8293,
         // lui x6, 0; addi x6, x6, 65
         0x0000_0337,
         0x0413_0313,
@@ -54,9 +66,12 @@ fn one_write_has_the_words_of_the_standard_tools(rt: HostRuntime) -> Result<(), 
 
 #[test]
 fn an_image_has_the_ports_of_its_source_in_their_order(rt: HostRuntime) -> Result<(), Fail> {
-    let text =
-        b"{ port rx :: In (Bit 8) at X80000004; port tx :: Out (Bit 8) at X80000000; main :: M Unit; main = do { x <- readPort rx; writePort tx x } }";
-    let image = compiled(rt.alloc(), text)?;
+    let statements = [
+        Statement::Read(0),
+        Statement::Write(1, Argument::Atom(Atom::Variable(0))),
+    ];
+    let source = source(rt.alloc(), &statements)?;
+    let image = compiled(rt.alloc(), &source)?;
     assert_eq!(rt; image.ports.len(), 2);
     let first = image
         .ports
@@ -66,6 +81,6 @@ fn an_image_has_the_ports_of_its_source_in_their_order(rt: HostRuntime) -> Resul
     assert_eq!(rt; first.name.as_slice(), b"rx".as_slice());
     assert_eq!(rt; first.dir, Dir::In);
     assert_eq!(rt; first.width, 1);
-    assert_eq!(rt; first.address, 0x8000_0004);
+    assert_eq!(rt; first.address, 0x8000_0000);
     Ok(())
 }

@@ -16,7 +16,9 @@ use Rattle.hb_lex.specs.Tokens.{Lexeme, Spells, Found}
 use Rattle.hb_lex.specs.Numbering.{Found as IsFound, shape_of, name_of, IsNumbered, AreNumbered, texts_of}
 use Rattle.hb_lex.proofs.TokensLaws.{one_answer}
 use Rattle.hb_layout.specs.Laid.{given, Laid}
-use Rattle.hb_front.specs.Front.{SpellsTokens, LaysOut}
+use Rattle.hb_tree.specs.declared.declaration.Program.{Program}
+use Rattle.hb_parser.specs.Parsing.{Parses}
+use Rattle.hb_front.specs.Front.{SpellsTokens, LaysOut, SpellsProgram}
 
 -- a text that stands at a place of a table of distinct texts stands at no other
 
@@ -167,3 +169,18 @@ pub laid_answer : {old : List (List ℕ)} {bytes : List ℕ} {names table : List
 laid_answer {table} {answer} spelled found other =
     let same = spelled table other.tokens other.spelled in
     (laid_once (subst (λ ts. Laid ts answer) same.0 found) other.rules, same.1)
+
+-- what is parsed is laid out, and parsed once
+
+pub parsed_is_laid : {old : List (List ℕ)} {bytes : List ℕ} {table : List (List ℕ)} {p : Program} {P : Type 0} → ((table : List (List ℕ)) (ts : List Token) → LaysOut old bytes table ts → P) → SpellsProgram old bytes table p → P
+parsed_is_laid {table} only other = only table other.laid other.lays_out
+
+pub parsed_only : {old : List (List ℕ)} {bytes : List ℕ} {names table : List (List ℕ)} {laid : List Token} {p : Program} {P : Type 0} → ((table : List (List ℕ)) (ts : List Token) → LaysOut old bytes table ts → (laid ≡ ts) × (names ≡ table)) → ((q : Program) → Parses laid q → P) → SpellsProgram old bytes table p → P
+parsed_only {table} {p} once only other =
+    let same = once table other.laid other.lays_out in
+    only p (subst (λ ts. Parses ts p) (sym same.0) other.parses)
+
+pub parsed_answer : {old : List (List ℕ)} {bytes : List ℕ} {names table : List (List ℕ)} {laid : List Token} {answer p : Program} → ((table : List (List ℕ)) (ts : List Token) → LaysOut old bytes table ts → (laid ≡ ts) × (names ≡ table)) → ((q : Program) → Parses laid q → answer ≡ q) → SpellsProgram old bytes table p → (answer ≡ p) × (names ≡ table)
+parsed_answer {table} {p} once only other =
+    let same = once table other.laid other.lays_out in
+    (only p (subst (λ ts. Parses ts p) (sym same.0) other.parses), same.1)

@@ -1,11 +1,12 @@
 -- What a list of laid-out tokens is read as, and why it is refused.
-use Rattle.std.specs.Prelude.{◌≡◌, List, [], ◌∷◌, ◌++◌, codes}
+use Rattle.std.specs.Prelude.{◌≡◌, List, [], ◌∷◌, ◌++◌, codes, Some}
 use Rattle.hb_base.specs.declared.place.Place.{Place}
 use Rattle.hb_base.specs.declared.refusal.Refusal.{Refusal}
 use Rattle.hb_base.specs.declared.refusal.Code.TheVariants.{E04, E29}
 use Rattle.hb_tokens.specs.declared.token.Token.{Token}
 use Rattle.hb_tree.specs.declared.declaration.Program.{Program}
 use Rattle.hb_grammar.specs.Declarations.{Derives}
+use Rattle.hb_depth.specs.Depth.{too_deep, IsFirst}
 
 -- the tokens of some program begin with these
 pub record CanGoOn (ts : List Token) : Type 0 where
@@ -22,3 +23,13 @@ pub record FirstWrong (ts : List Token) (place : Place) : Type 0 where
   pub good : CanGoOn before
   pub wrong : ¬ CanGoOn (before ++ token ∷ [])
   pub here : place ≡ token.place
+
+-- the tokens are this program, and no form in it is nested too deep
+pub record Parses (ts : List Token) (program : Program) : Type 0 where
+  pub derives : Derives ts program
+  pub shallow : too_deep program ≡ []
+
+-- the first fault: the grammar breaks at a token, or the program has forms that are nested too deep, the first here
+pub data FirstFault (ts : List Token) : Refusal → Type 0 where
+  wrong_token : (place : Place) → FirstWrong ts place → FirstFault ts (record { code = E04; place = place; detail = codes "-" })
+  deep_form : (place : Place) (program : Program) → Derives ts program → IsFirst (Some place) (too_deep program) → FirstFault ts (record { code = E29; place = place; detail = codes "depth" })

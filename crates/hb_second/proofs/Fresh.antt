@@ -1,6 +1,6 @@
 -- There is always a name and an address that no port has yet.
 use Rattle.std.proofs.Common.{◌≡◌, ℕ, zero, suc, ◌+◌, ◌/◌, ◌%◌, ◌<◌, ◌≤◌, Bool, true, false, cond, List, [], ◌∷◌, length, refl, sym, ap, ◌∙◌, ◌⊎◌, inl, inr, ⊎_elim, arith}
-use Rattle.std.specs.Prelude.{◌&&◌, ◌||◌, not, ◌==◌, nat_le, nat_lt, slice_index, if◌then◌else◌}
+use Rattle.std.specs.Prelude.{◌&&◌, ◌||◌, not, ◌==◌, nat_le, nat_lt, slice_index}
 use Rattle.std.specs.List.{list_any}
 use Rattle.std.specs.Str.{bytes_eq}
 use Rattle.std.proofs.lemmas.Bool.{cases_lt}
@@ -8,11 +8,9 @@ use Rattle.std.proofs.lemmas.Bool.Decides.{Decides-eqb, nat_tests}
 use Rattle.std.proofs.lemmas.Slice.Eq.{bytes_eq-Decides}
 use Rattle.hb_base.specs.PortName.{is_lower}
 use Rattle.hb_base.specs.declared.port.Port.{Port}
-use Rattle.hb_second.specs.declared.token.Placed.{Placed}
-use Rattle.hb_second.specs.Names.{is_free_name, is_short_lower, is_the_word, is_new_name, taken_words}
-use Rattle.hb_second.specs.Scan.{tokens_of, scan}
-use Rattle.hb_second.specs.Literals.{is_hex, digit_value, is_literal, address_value}
-use Rattle.hb_second.specs.Form.{is_new_address}
+use Rattle.hb_second.specs.Names.{is_free_name, is_short_lower, is_new_name, taken_words}
+use Rattle.hb_second.specs.Moves.{is_next_port}
+use Rattle.hb_second.proofs.StepLaws.{and_both}
 
 -- each port is one number's at most
 abbrev Alone : (ℕ → Port → Bool) → Type 0
@@ -79,7 +77,7 @@ free : (test : ℕ → Port → Bool) → Alone test → (n : ℕ) (ps : List Po
 unfolding AllHit Free
 free test alone n ps h = ⊎_elim (λ all. let b : n ≤ length ps = bound test alone n ps all in absurd (omega arith)) (λ f. f) (seek test n ps)
 
--- names that no other word is like: z and two letters more
+-- names that no word is like: z and two letters more
 abbrev name_at : ℕ → List ℕ
 name_at i = 122 ∷ (97 + i / 26) ∷ (97 + i % 26) ∷ []
 
@@ -99,8 +97,7 @@ lower k h = grind (arith, nat_tests)
 short : (a b : ℕ) → is_lower a ≡ true → is_lower b ≡ true → is_short_lower (122 ∷ a ∷ b ∷ []) ≡ true
 short a b e f = rw (e, f) refl
 
-not_taken : (a b : ℕ) → list_any (λ (word : Placed). is_the_word (122 ∷ a ∷ b ∷ []) word.token) taken_words ≡ false
-unfolding taken_words tokens_of scan
+not_taken : (a b : ℕ) → list_any (bytes_eq (122 ∷ a ∷ b ∷ [])) taken_words ≡ false
 not_taken a b = refl
 
 and_not : (b c : Bool) → b ≡ true → c ≡ false → b && not c ≡ true
@@ -118,35 +115,10 @@ new_of : (a b c : Bool) → a ≡ true → b ≡ false → c ≡ false → a && 
 new_of a b c e f g = rw (e, f, g) refl
 
 -- a name that no port has
-pub new_name : (ps : List Port) → length ps < 256 → (name : List ℕ) × (is_new_name ps [] name ≡ true)
+new_name : (ps : List Port) → length ps < 256 → (name : List ℕ) × (is_new_name ps [] name ≡ true)
 new_name ps h =
     let f = free (λ i p. bytes_eq (name_at i) p.name) names_alone 256 ps h in
     (name_at f.0, new_of _ _ _ (name_free f.0 (omega (arith, f.1))) f.2 refl)
-
-abbrev hex_digit : ℕ → ℕ
-hex_digit d = if nat_lt d 10 then 48 + d else 55 + d
-
-digit_back : (d : ℕ) → d < 16 → digit_value (hex_digit d) ≡ d
-digit_back d h = grind (arith, nat_tests)
-
-digit_is : (d : ℕ) → d < 16 → is_hex (hex_digit d) ≡ true
-digit_is d h = grind (arith, nat_tests)
-
--- X800000 and two digits
-abbrev address_at : ℕ → List ℕ
-address_at i = 88 ∷ 56 ∷ 48 ∷ 48 ∷ 48 ∷ 48 ∷ 48 ∷ hex_digit (i / 16) ∷ hex_digit (i % 16) ∷ []
-
-address_is : (i : ℕ) → i < 256 → address_value (address_at i) ≡ 2147483648 + i
-address_is i h =
-    let high : i / 16 < 16 = omega arith in
-    let low : i % 16 < 16 = omega arith in
-    rw (digit_back (i / 16) high, digit_back (i % 16) low) (omega arith)
-
-address_literal : (i : ℕ) → i < 256 → is_literal 8 (address_at i) ≡ true
-address_literal i h =
-    let high : i / 16 < 16 = omega arith in
-    let low : i % 16 < 16 = omega arith in
-    rw (digit_is (i / 16) high, digit_is (i % 16) low) refl
 
 addresses_alone : Alone (λ i p. p.address == 2147483648 + i)
 addresses_alone i j p e f =
@@ -154,22 +126,21 @@ addresses_alone i j p e f =
     let b : p.address ≡ 2147483648 + j = (Decides-eqb p.address (2147483648 + j)).0 f in
     omega arith
 
-pub record NewAddress (ps : List Port) (w : List ℕ) : Type 0 where
-  pub digits : is_literal 8 w ≡ true
-  pub high : nat_le 2147483648 (address_value w) ≡ true
-  pub new_address : is_new_address ps (address_value w) ≡ true
-
 high_enough : (i : ℕ) → nat_le 2147483648 (2147483648 + i) ≡ true
 high_enough i = grind (arith, nat_tests)
 
--- an address that no port has
-pub new_address : (ps : List Port) → length ps < 256 → (w : List ℕ) × NewAddress ps w
-new_address ps h =
+low_enough : (i : ℕ) → i < 256 → nat_lt (2147483648 + i) 4294967296 ≡ true
+low_enough i h = grind (arith, nat_tests)
+
+not_any : (b : Bool) → b ≡ false → not b ≡ true
+not_any b e = rw e refl
+
+-- a name and an address that no port has
+pub new_port : (ps : List Port) → length ps < 256 → (name : List ℕ) × (address : ℕ) × (is_next_port ps name address ≡ true)
+new_port ps h =
+    let name = new_name ps h in
     let f = free (λ i p. p.address == 2147483648 + i) addresses_alone 256 ps h in (
-      address_at f.0,
-      record {
-        digits = address_literal f.0 f.1;
-        high = rw (address_is f.0 f.1) (high_enough f.0);
-        new_address = rw (address_is f.0 f.1) (rw f.2 refl);
-      },
+      name.0,
+      2147483648 + f.0,
+      and_both _ _ name.1 (and_both _ _ (high_enough f.0) (and_both _ _ (low_enough f.0 f.1) (not_any _ f.2))),
     )

@@ -1,10 +1,9 @@
-pub mod ScanSteps
-pub mod TokensLaws
 pub mod StepLaws
+pub mod RunLaws
+pub mod ArgumentLaws
 pub mod Fresh
 pub mod Alive
 pub mod Sound
 pub mod Complete
-pub mod Reading
-pub mod SpellingLaws
+pub mod Answering
 pub mod MeaningLaws

@@ -1,9 +1,6 @@
-pub mod Bytes
-pub mod Tokens
-pub mod Scan
-pub mod Literals
 pub mod Names
+pub mod Items
 pub mod Form
-pub mod Spelling
+pub mod Wrong
 pub mod Meaning
 pub mod Moves

@@ -1,17 +1,16 @@
-//! The second form of a source: ports of eight bits, and a `main` that reads and writes them in a straight line.
-//! It is read exactly, with the place of the first token that cannot stand.
-//!
-//! This crate goes away when the whole grammar is read; what stands above knows only `Source` and its meaning.
+//! The second form of a program: ports of eight bits, and a `main` that reads and writes them in a straight line. It is
+//! found in the tree of a program exactly, with the place of the first declaration or statement that cannot stand.
 #![tactic(auto)]
 
-mod lexer;
-mod read;
+#[cfg(test)]
+mod making;
 mod reader;
+mod reading;
+mod shapes;
 mod source;
-mod stage;
+mod spelling;
 #[cfg(test)]
 mod tests;
-mod token;
 
-pub use read::{ReadError, read_source};
+pub use reading::{FormError, read_source};
 pub use source::{Argument, Atom, Operator, Source, Statement};

@@ -1,688 +1,465 @@
-ghost use Rattle.std.specs.Prelude.{◌≡◌, ◌&&◌, ℕ, ◌+◌, ◌<◌, ◌≤◌, length, drop, IfOk, slice_index, if◌then◌else◌, option_map, position, Some, None, [], OnOk, ◌==◌};
-ghost use Rattle.std.specs.List.{list_any, list_all};
+ghost use Rattle.std.specs.Prelude.{◌≡◌, ℕ, ◌&&◌, ◌==◌, ◌<◌, ◌≤◌, ◌^◌, length, codes, if◌then◌else◌, nat_lt, position, IfOk, IsTrue, Some, None, option_map, option_and_then};
+ghost use Rattle.std.specs.List.{list_any};
 ghost use Rattle.std.specs.Str.{bytes_eq};
-ghost use Rattle.hb_base.specs.PortName.{is_lower};
 ghost use Rattle.hb_second.specs.declared.source.Atom.TheVariants.{Literal, Variable};
-ghost use Rattle.hb_second.specs.declared.stage.Stage.TheVariants.{Fixed as At, Next, Name, Direction, Address, PortEnd, Line, From, To, Value, First, Between, Second, Closing, Written, End};
-ghost use Rattle.hb_second.specs.Literals.{is_hex, digit_value, is_literal, byte_at, byte_value, address_value};
-ghost use Rattle.hb_second.specs.Names.{taken_words, is_the_word, is_short_lower, is_free_name, is_new_name, same_way, has_port, find_port, atom_of, operator_named, operator_of};
-ghost use Rattle.hb_second.specs.Form.{word, mark, is_new_address};
-ghost use Rattle.hb_second.specs.Moves.{expected, same_token, word_of, may_be_in, is_port_address, may_read, named_port, given, at_stage, put_write, move_at, step};
-ghost use Rattle.hb_second.specs.declared.token.Token.TheVariants.{Word, Symbols, Colons, Mark};
+ghost use Rattle.hb_second.specs.declared.source.Argument.TheVariants.{Atom as OneAtom};
+ghost use Rattle.hb_tree.specs.ExpressionViews.{exprs};
+ghost use Rattle.hb_second.specs.Items.{APort, TheSignature, TheEquation, ARead, Other, text_of, word_of, operator_at, operator_in, run_given, given_of, port_item, signature_item, read_of, call_item, take_item, write_of, do_item, is_variable, variable_of};
+ghost use Rattle.hb_second.specs.Form.{atom_of, argument_of, operation_of};
+ghost use Rattle.hb_second.specs.Moves.{in_ports, at_equation, in_body, given, may_go, is_port_address, is_next_port, may_be_port, may_read, put_read, may_write, put_write, written, named_write, step, IsSmall};
 
-use crate::lexer::tokens;
+use crate::shapes::{is_main_signature, is_variable, variable_of};
 use crate::source::{Argument, Atom, Operator, Statement};
-use crate::stage::{Fixed, Stage};
-use crate::token::{Placed, Token};
-use hb_base::{Dir, List, Memory, Port, Text};
+use crate::spelling::{find_port, find_variable, has_port, is_new_name, operator_named, text_of};
+use hb_base::{Dir, List, Memory, Name, Names, Port, Text};
+use hb_tree::{Expr, ExprKind, Pat, PatKind, Sig};
 use std::alloc::Global;
-use std::mem;
 
-/// What the tokens so far are known to say: where the next one stands, a name that is not used yet, the ports, the
-/// variables and the statements.
+/// What may come next.
+#[derive(Clone, Copy, Debug, PartialEq, Eq)]
+pub enum Stage {
+    /// A port, or the signature of `main`.
+    Ports,
+    /// The equation of `main`.
+    Equation,
+    /// A statement, at the beginning or after a read.
+    Statements,
+    /// A statement or the end, after a write.
+    Written,
+}
+
+/// What the items so far are known to say: where the next one stands, the ports, the variables and the statements.
 #[derive(Drop)]
 pub struct Reader {
     pub stage: Stage,
-    pub name: Text,
     pub ports: List<Port>,
     pub variables: List<Text>,
     pub statements: List<Statement>,
 }
 
-fn is_hex(byte: u8) -> bool
-    ensures { result ≡ is_hex byte }
+/// A port may go this way: an In port only where an Out port stands before, or may still come.
+fn may_go(way: Dir, ports: &[Port]) -> bool
+    ensures { result ≡ may_go way ports.now }
 {
-    byte.is_ascii_digit() || (byte >= b'A' && byte <= b'F')
-}
-
-fn digit_value(byte: u8) -> u8
-    ensures value { result ≡ digit_value byte }
-    ensures range { result < 16 }
-{
-    if byte.is_ascii_digit() {
-        byte - b'0'
-    } else if byte >= b'A' && byte <= b'F' {
-        byte - b'A' + 10
-    } else {
-        0
+    match way {
+        Dir::In => has_port(Dir::Out, ports) || ports.len() < 255,
+        Dir::Out => true,
     }
 }
 
-fn letter_at(word: &[u8], place: usize) -> u8
-    ensures { result ≡ slice_index word.now place }
+fn has_address(ports: &[Port], address: u128) -> bool
+    ensures { result ≡ list_any (λ port. port.address == address) ports.now }
 {
-    word.get(place).copied().unwrap_or(0)
+    ports.iter().any(|port| u128::from(port.address) == address)
 }
 
-/// `X` and so many digits.
-fn is_literal(word: &[u8], digits: usize) -> bool
-    requires { digits < 100 }
-    ensures { result ≡ is_literal digits word.now }
+fn is_port_address(ports: &[Port], address: u128) -> bool
+    ensures { result ≡ is_port_address ports.now address }
 {
-    word.len() == digits + 1 && letter_at(word, 0) == b'X' && are_hex(after_first(word))
+    address >= 0x8000_0000 && address < 0x1_0000_0000 && !has_address(ports, address)
 }
 
-fn after_first(word: &[u8]) -> &[u8]
-    ensures { result.now ≡ drop 1 word.now }
+fn is_next_port(ports: &[Port], name: &[u8], address: u128) -> bool
+    ensures is { result ≡ is_next_port ports.now name.now address }
+    ensures within { IsTrue result → address < 2 ^ 32 }
 {
-    match word {
-        [_, rest @ ..] => rest,
-        [] => word,
-    }
+    is_new_name(ports, &[], name) && is_port_address(ports, address)
 }
 
-fn are_hex(digits: &[u8]) -> bool
-    ensures { result ≡ list_all is_hex digits.now }
+/// The byte of a literal of eight bits.
+fn byte_of(width: u32, value: u128) -> Option<Atom>
+    ensures { result ≡ (if width == 8 then if nat_lt value 256 then Some (Literal value) else None else None) }
 {
-    digits.iter().all(|digit| is_hex(*digit))
-}
-
-/// The byte that two digits from a place on stand for.
-fn byte_at(word: &[u8], place: usize) -> u8
-    requires { place < 100 }
-    ensures { result ≡ byte_at word.now place }
-{
-    16 * digit_value(letter_at(word, place)) + digit_value(letter_at(word, place + 1))
-}
-
-fn address_value(word: &[u8]) -> u32
-    ensures { result ≡ address_value word.now }
-{
-    0x100_0000 * u32::from(byte_at(word, 1))
-        + (0x1_0000 * u32::from(byte_at(word, 3))
-            + (0x100 * u32::from(byte_at(word, 5)) + u32::from(byte_at(word, 7))))
-}
-
-fn is_the_word(name: &[u8], token: &Token) -> bool
-    ensures { result ≡ is_the_word name.now token.now }
-{
-    match token {
-        Token::Word(word) => name == word.as_slice(),
-        _ => false,
-    }
-}
-
-/// The name is one of these words.
-fn is_among(name: &[u8], words: &[Placed]) -> bool
-    ensures { result ≡ list_any (λ word. is_the_word name.now word.token) words.now }
-{
-    words.iter().any(|word| is_the_word(name, &word.token))
-}
-
-/// The name is a reserved word, or one that the prelude or a primitive has.
-fn is_taken(alloc: Global, name: &[u8]) -> Result<bool, Memory>
-    ensures { IfOk result (λ taken. taken ≡ list_any (λ word. is_the_word name.now word.token) taken_words) }
-{
-    let words = tokens(
-        alloc,
-        b"area bitdata struct port class instance data infix infixl infixr where let in do of case if then else each fields aligned at module import export deriving default type newtype foreign opaque fails return halt complement shl shr not when unless forever main",
-    )?;
-    Ok(is_among(name, words.tokens.as_slice()))
-}
-
-fn is_all_lower(name: &[u8]) -> bool
-    ensures { result ≡ list_all is_lower name.now }
-{
-    name.iter().all(|c| c.is_ascii_lowercase())
-}
-
-/// 1 to 64 lower-case letters.
-fn is_short_lower(name: &[u8]) -> bool
-    ensures { result ≡ is_short_lower name.now }
-{
-    if name.is_empty() || name.len() > 64 {
-        return false;
-    }
-    is_all_lower(name)
-}
-
-fn is_free_name(alloc: Global, name: &[u8]) -> Result<bool, Memory>
-    ensures { IfOk result (λ free. free ≡ is_free_name name.now) }
-{
-    if !is_short_lower(name) {
-        return Ok(false);
-    }
-    let taken = is_taken(alloc, name)?;
-    Ok(!taken)
-}
-
-fn is_port_name(ports: &[Port], name: &[u8]) -> bool
-    ensures { result ≡ list_any (λ port. bytes_eq name.now port.name) ports.now }
-{
-    ports.iter().any(|port| name == port.name.as_slice())
-}
-
-fn is_variable(variables: &[Text], name: &[u8]) -> bool
-    ensures { result ≡ list_any (bytes_eq name.now) variables.now }
-{
-    variables.iter().any(|variable| name == variable.as_slice())
-}
-
-/// The name is free, and no port and no variable has it.
-fn is_new_name(
-    alloc: Global,
-    ports: &[Port],
-    variables: &[Text],
-    name: &[u8],
-) -> Result<bool, Memory>
-    ensures { IfOk result (λ new. new ≡ is_new_name ports.now variables.now name.now) }
-{
-    let free = is_free_name(alloc, name)?;
-    Ok(free && !is_port_name(ports, name) && !is_variable(variables, name))
-}
-
-fn same_way(a: Dir, b: Dir) -> bool
-    ensures { result ≡ same_way a b }
-{
-    a == b
-}
-
-fn has_port(way: Dir, ports: &[Port]) -> bool
-    ensures { result ≡ has_port way ports.now }
-{
-    ports.iter().any(|port| same_way(port.dir, way))
-}
-
-fn is_named(port: &Port, way: Dir, name: &[u8]) -> bool
-    ensures { result ≡ same_way port.now.dir way && bytes_eq name.now port.now.name }
-{
-    same_way(port.dir, way) && name == port.name.as_slice()
-}
-
-/// The number of the port that goes this way and has this name.
-fn find_port(way: Dir, name: &[u8], ports: &[Port]) -> Option<u32>
-    requires { length ports.now ≤ 256 }
-    ensures { result ≡ find_port way name.now ports.now }
-{
-    match ports.iter().position(|port| is_named(port, way, name)) {
-        Some(number) => Some(number as u32),
-        None => None,
-    }
-}
-
-fn find_variable(variables: &[Text], name: &[u8]) -> Option<u32>
-    requires { length variables.now ≤ 1000 }
-    ensures { result ≡ position (bytes_eq name.now) variables.now }
-{
-    match variables
-        .iter()
-        .position(|variable| name == variable.as_slice())
-    {
-        Some(number) => Some(number as u32),
-        None => None,
-    }
-}
-
-/// The byte of a literal, or the number of the variable of this name.
-fn atom_of(variables: &[Text], token: &Token) -> Option<Atom>
-    requires { length variables.now ≤ 1000 }
-    ensures { result ≡ atom_of variables.now token.now }
-{
-    match token {
-        Token::Word(word) => atom_named(variables, word.as_slice()),
-        _ => None,
-    }
-}
-
-fn atom_named(variables: &[Text], word: &[u8]) -> Option<Atom>
-    requires { length variables.now ≤ 1000 }
-    ensures { result ≡ (if is_literal 2 word.now then Some (Literal (byte_value word.now)) else option_map Variable (position (bytes_eq word.now) variables.now)) }
-{
-    if is_literal(word, 2) {
-        Some(Atom::Literal(byte_at(word, 1)))
-    } else {
-        match find_variable(variables, word) {
-            Some(number) => Some(Atom::Variable(number)),
-            None => None,
+    if width == 8 {
+        if value < 256 {
+            Some(Atom::Literal(value as u8))
+        } else {
+            None
         }
-    }
-}
-
-fn operator_named(word: &[u8]) -> Option<Operator>
-    ensures { result ≡ operator_named word.now }
-{
-    if word == b"+".as_slice() {
-        Some(Operator::Add)
-    } else if word == b"-".as_slice() {
-        Some(Operator::Sub)
-    } else if word == b".&.".as_slice() {
-        Some(Operator::And)
-    } else if word == b".|.".as_slice() {
-        Some(Operator::Or)
-    } else if word == b".^.".as_slice() {
-        Some(Operator::Xor)
     } else {
         None
     }
 }
 
-fn operator_of(token: &Token) -> Option<Operator>
-    ensures { result ≡ operator_of token.now }
+fn variable_at(variables: &[Text], name: &[u8]) -> Option<Atom>
+    requires { length variables.now ≤ 1000 }
+    ensures { result ≡ option_map Variable (position (bytes_eq name.now) variables.now) }
 {
-    match token {
-        Token::Symbols(word) => operator_named(word.as_slice()),
+    match find_variable(variables, name) {
+        Some(number) => Some(Atom::Variable(number)),
+        None => None,
+    }
+}
+
+/// The byte of a literal, or the variable of this name.
+#[tactic(auto, using(crate::proofs::ArgumentLaws::byte_word))]
+fn atom_at(names: &Names, variables: &[Text], expr: &Expr) -> Option<Atom>
+    requires { length variables.now ≤ 1000 }
+    ensures { result ≡ option_and_then (atom_of variables.now) (word_of names.now expr.now) }
+{
+    match &expr.kind {
+        ExprKind::Bits(width, value) => byte_of(*width, *value),
+        ExprKind::Var(name) => variable_at(variables, text_of(names, *name)),
         _ => None,
     }
 }
 
-fn is_word(token: &Token, word: &[u8]) -> bool
-    ensures { result ≡ same_token token.now (Word word.now) }
+fn operator_at(names: &Names, expr: &Expr) -> Option<Operator>
+    ensures { result ≡ operator_at names.now (variable_of expr.now) }
 {
-    match token {
-        Token::Word(found) => found.as_slice() == word,
-        _ => false,
+    match variable_of(expr) {
+        Some(name) => operator_named(text_of(names, name)),
+        None => None,
     }
 }
 
-fn is_symbols(token: &Token, symbols: &[u8]) -> bool
-    ensures { result ≡ same_token token.now (Symbols symbols.now) }
+fn operation_of(a: Option<Atom>, operator: Option<Operator>, b: Option<Atom>) -> Option<Argument>
+    ensures { result ≡ operation_of a operator b }
 {
-    match token {
-        Token::Symbols(found) => found.as_slice() == symbols,
-        _ => false,
-    }
-}
-
-fn is_colons(token: &Token) -> bool
-    ensures { result ≡ same_token token.now Colons }
-{
-    match token {
-        Token::Colons => true,
-        _ => false,
-    }
-}
-
-fn is_mark(token: &Token, mark: u8) -> bool
-    ensures { result ≡ same_token token.now (Mark mark) }
-{
-    match token {
-        Token::Mark(found) => *found == mark,
-        _ => false,
-    }
-}
-
-/// The word of a token, and no bytes where it has none.
-fn word_of(token: &Token) -> &[u8]
-    ensures { result.now ≡ word_of token.now }
-{
-    match token {
-        Token::Word(word) => word.as_slice(),
-        _ => &[],
-    }
-}
-
-/// The token is the one that may come here.
-fn is_expected(fixed: Fixed, token: &Token) -> bool
-    ensures { result ≡ same_token token.now (expected fixed).0 }
-{
-    match fixed {
-        Fixed::Open => is_mark(token, b'{'),
-        Fixed::PortColons => is_colons(token),
-        Fixed::WidthOpen(_) => is_mark(token, b'('),
-        Fixed::WidthWord(_) => is_word(token, b"Bit"),
-        Fixed::WidthEight(_) => is_word(token, b"8"),
-        Fixed::WidthClose(_) => is_mark(token, b')'),
-        Fixed::AtWord(_) => is_word(token, b"at"),
-        Fixed::MainColons => is_colons(token),
-        Fixed::MainMonad => is_word(token, b"M"),
-        Fixed::MainUnit => is_word(token, b"Unit"),
-        Fixed::MainEnd => is_mark(token, b';'),
-        Fixed::MainName => is_word(token, b"main"),
-        Fixed::MainEquals => is_mark(token, b'='),
-        Fixed::MainDo => is_word(token, b"do"),
-        Fixed::MainOpen => is_mark(token, b'{'),
-        Fixed::Arrow => is_symbols(token, b"<-"),
-        Fixed::ReadWord => is_word(token, b"readPort"),
-        Fixed::ReadEnd => is_mark(token, b';'),
-        Fixed::LastClose => is_mark(token, b'}'),
-    }
-}
-
-/// The stage after the token that may come here.
-fn next_stage(fixed: Fixed) -> Stage
-    ensures { result ≡ (expected fixed).1 }
-{
-    match fixed {
-        Fixed::Open => Stage::Next,
-        Fixed::PortColons => Stage::Direction,
-        Fixed::WidthOpen(way) => Stage::Fixed(Fixed::WidthWord(way)),
-        Fixed::WidthWord(way) => Stage::Fixed(Fixed::WidthEight(way)),
-        Fixed::WidthEight(way) => Stage::Fixed(Fixed::WidthClose(way)),
-        Fixed::WidthClose(way) => Stage::Fixed(Fixed::AtWord(way)),
-        Fixed::AtWord(way) => Stage::Address(way),
-        Fixed::MainColons => Stage::Fixed(Fixed::MainMonad),
-        Fixed::MainMonad => Stage::Fixed(Fixed::MainUnit),
-        Fixed::MainUnit => Stage::Fixed(Fixed::MainEnd),
-        Fixed::MainEnd => Stage::Fixed(Fixed::MainName),
-        Fixed::MainName => Stage::Fixed(Fixed::MainEquals),
-        Fixed::MainEquals => Stage::Fixed(Fixed::MainDo),
-        Fixed::MainDo => Stage::Fixed(Fixed::MainOpen),
-        Fixed::MainOpen => Stage::Line,
-        Fixed::Arrow => Stage::Fixed(Fixed::ReadWord),
-        Fixed::ReadWord => Stage::From,
-        Fixed::ReadEnd => Stage::Line,
-        Fixed::LastClose => Stage::End,
-    }
-}
-
-/// The number of the port that goes this way and has the token's word for its name.
-fn named_port(way: Dir, token: &Token, ports: &[Port]) -> Option<u32>
-    requires { length ports.now ≤ 256 }
-    ensures { result ≡ named_port way token.now ports.now }
-{
-    match token {
-        Token::Word(word) => find_port(way, word.as_slice(), ports),
+    match (a, operator, b) {
+        (Some(a), Some(operator), Some(b)) => Some(Argument::Operation(a, operator, b)),
         _ => None,
     }
 }
 
-/// An In port may stand where an Out port stands before, or may still come.
-fn may_be_in(ports: &[Port]) -> bool
-    ensures { result ≡ may_be_in ports.now }
+fn single(atom: Option<Atom>) -> Option<Argument>
+    ensures { result ≡ option_map OneAtom atom }
 {
-    has_port(Dir::Out, ports) || ports.len() < 255
+    match atom {
+        Some(atom) => Some(Argument::Atom(atom)),
+        None => None,
+    }
 }
 
-fn has_address(ports: &[Port], address: u32) -> bool
-    ensures { result ≡ list_any (λ port. port.address == address) ports.now }
+/// The one operator of a run.
+fn operator_in(names: &Names, operators: &[Expr]) -> Option<Operator>
+    ensures { result ≡ operator_in names.now (exprs operators.now) }
 {
-    ports.iter().any(|port| port.address == address)
+    match operators {
+        [operator] => operator_at(names, operator),
+        _ => None,
+    }
 }
 
-fn is_new_address(ports: &[Port], address: u32) -> bool
-    ensures { result ≡ is_new_address ports.now address }
+/// Two atoms with an operator between.
+#[tactic(auto, using(crate::proofs::ArgumentLaws::two_argument))]
+fn operation_at(
+    names: &Names,
+    variables: &[Text],
+    operands: &[Expr],
+    operator: Option<Operator>,
+) -> Option<Argument>
+    requires { length variables.now ≤ 1000 }
+    ensures { result ≡ option_and_then (argument_of variables.now) (run_given names.now (exprs operands.now) operator) }
 {
-    !has_address(ports, address)
+    match operands {
+        [a, b] => operation_of(
+            atom_at(names, variables, a),
+            operator,
+            atom_at(names, variables, b),
+        ),
+        _ => None,
+    }
 }
 
-fn is_port_address(ports: &[Port], word: &[u8]) -> bool
-    ensures { result ≡ is_port_address ports.now word.now }
+/// What a write is given.
+#[tactic(auto, using(crate::proofs::ArgumentLaws::one_argument))]
+fn argument_at(names: &Names, variables: &[Text], expr: &Expr) -> Option<Argument>
+    requires { length variables.now ≤ 1000 }
+    ensures { result ≡ option_and_then (argument_of variables.now) (given_of names.now expr.now) }
 {
-    is_literal(word, 8)
-        && address_value(word) >= 0x8000_0000
-        && is_new_address(ports, address_value(word))
+    match &expr.kind {
+        ExprKind::Run(operands, operators) => {
+            let operator = operator_in(names, operators.as_slice());
+            operation_at(names, variables, operands.as_slice(), operator)
+        }
+        ExprKind::Bits(_, _) => single(atom_at(names, variables, expr)),
+        ExprKind::Var(_) => single(atom_at(names, variables, expr)),
+        _ => None,
+    }
+}
+
+impl Stage {
+    fn in_ports(self) -> bool
+        ensures { result ≡ in_ports self }
+    {
+        self == Stage::Ports
+    }
+
+    fn at_equation(self) -> bool
+        ensures { result ≡ at_equation self }
+    {
+        self == Stage::Equation
+    }
+
+    fn in_body(self) -> bool
+        ensures { result ≡ in_body self }
+    {
+        match self {
+            Stage::Ports | Stage::Equation => false,
+            Stage::Statements | Stage::Written => true,
+        }
+    }
 }
 
 impl Reader {
-    fn take_fixed(&mut self, fixed: Fixed, token: &Token) -> bool
-        ensures { move_at (At fixed) self.old token.now ≡ given result self.new }
+    fn may_be_port(&self, name: &[u8], way: Dir, address: u128) -> bool
+        ensures is { result ≡ may_be_port self.now name.now way address }
+        ensures within { IsTrue result → address < 2 ^ 32 }
     {
-        if !is_expected(fixed, token) {
-            return false;
-        }
-        self.stage = next_stage(fixed);
-        true
+        self.stage.in_ports()
+            && self.ports.len() < 256
+            && may_go(way, self.ports.as_slice())
+            && is_next_port(self.ports.as_slice(), name, address)
     }
 
-    fn take_next(&mut self, token: &Token) -> bool
-        ensures { move_at Next self.old token.now ≡ given result self.new }
-    {
-        let word = word_of(token);
-        if word == b"port".as_slice() {
-            if self.ports.len() >= 256 {
-                return false;
-            }
-            self.stage = Stage::Name;
-            return true;
-        }
-        if word != b"main".as_slice() || !has_port(Dir::Out, self.ports.as_slice()) {
-            return false;
-        }
-        self.stage = Stage::Fixed(Fixed::MainColons);
-        true
-    }
-
-    fn take_name(&mut self, alloc: Global, token: &Token) -> Result<bool, Memory>
-        ensures { IfOk result (λ fits. move_at Name self.old token.now ≡ given fits self.new) }
-    {
-        let word = word_of(token);
-        let fits = is_new_name(alloc, self.ports.as_slice(), &[], word)?;
-        if !fits {
-            return Ok(false);
-        }
-        self.name = Text::of(Vec::from_slice(alloc, word)?);
-        self.stage = Stage::Fixed(Fixed::PortColons);
-        Ok(true)
-    }
-
-    fn take_direction(&mut self, token: &Token) -> bool
-        ensures { move_at Direction self.old token.now ≡ given result self.new }
-    {
-        let word = word_of(token);
-        if word == b"In".as_slice() {
-            if !may_be_in(self.ports.as_slice()) {
-                return false;
-            }
-            self.stage = Stage::Fixed(Fixed::WidthOpen(Dir::In));
-            return true;
-        }
-        if word != b"Out".as_slice() {
-            return false;
-        }
-        self.stage = Stage::Fixed(Fixed::WidthOpen(Dir::Out));
-        true
-    }
-
-    fn take_address(&mut self, way: Dir, token: &Token) -> bool
-        ensures { move_at (Address way) self.old token.now ≡ given result self.new }
-    {
-        let word = word_of(token);
-        if !is_port_address(self.ports.as_slice(), word) {
-            return false;
-        }
-        self.stage = Stage::PortEnd(way, address_value(word));
-        true
-    }
-
-    /// The name that is not used yet. It is empty then.
-    fn use_name(&mut self, alloc: Global) -> Text
-        ensures name { result ≡ self.old.name }
-        ensures rest { self.new ≡ record self.old { name = [] } }
-    {
-        mem::replace(&mut self.name, Text::of(Vec::new(alloc)))
-    }
-
-    fn take_port_end(
+    fn take_port(
         &mut self,
         alloc: Global,
+        name: &[u8],
         way: Dir,
-        address: u32,
-        token: &Token,
+        address: u128,
     ) -> Result<bool, Memory>
-        ensures { IfOk result (λ fits. move_at (PortEnd way address) self.old token.now ≡ given fits self.new) }
+        ensures { IfOk result (λ fits. step self.old (APort name.now way address) ≡ given fits self.new) }
     {
-        if !is_mark(token, b';') {
+        if !self.may_be_port(name, way, address) {
             return Ok(false);
         }
-        let name = self.use_name(alloc);
+        let name = Text::of(Vec::from_slice(alloc, name)?);
         self.ports.push(Port {
             name,
             dir: way,
             width: 1,
-            address,
+            address: address as u32,
         })?;
-        self.stage = Stage::Next;
         Ok(true)
     }
 
-    fn may_read(&self, alloc: Global, word: &[u8]) -> Result<bool, Memory>
-        ensures { IfOk result (λ may. may ≡ may_read self.now word.now) }
+    /// Takes a port, if it may stand here. After an item that may not, the reader is not used again.
+    pub fn take_port_item(
+        &mut self,
+        alloc: Global,
+        is_byte_port: bool,
+        name: &[u8],
+        way: Dir,
+        address: u128,
+    ) -> Result<bool, Memory>
+        ensures { IfOk result (λ fits. step self.old (port_item is_byte_port name.now way address) ≡ given fits self.new) }
     {
-        if self.statements.len() >= 999 || !has_port(Dir::In, self.ports.as_slice()) {
-            return Ok(false);
-        }
-        let new = is_new_name(
-            alloc,
-            self.ports.as_slice(),
-            self.variables.as_slice(),
-            word,
-        )?;
-        Ok(new)
-    }
-
-    fn take_line(&mut self, alloc: Global, token: &Token) -> Result<bool, Memory>
-        ensures { IfOk result (λ fits. move_at Line self.old token.now ≡ given fits self.new) }
-    {
-        let word = word_of(token);
-        if word == b"writePort".as_slice() {
-            self.stage = Stage::To;
-            return Ok(true);
-        }
-        let fits = self.may_read(alloc, word)?;
-        if !fits {
-            return Ok(false);
-        }
-        self.name = Text::of(Vec::from_slice(alloc, word)?);
-        self.stage = Stage::Fixed(Fixed::Arrow);
-        Ok(true)
-    }
-
-    fn take_from(&mut self, alloc: Global, token: &Token) -> Result<bool, Memory>
-        requires { length self.old.ports ≤ 256 }
-        ensures { IfOk result (λ fits. move_at From self.old token.now ≡ given fits self.new) }
-    {
-        match named_port(Dir::In, token, self.ports.as_slice()) {
-            Some(number) => {
-                let name = self.use_name(alloc);
-                self.variables.push(name)?;
-                self.statements.push(Statement::Read(number))?;
-                self.stage = Stage::Fixed(Fixed::ReadEnd);
-                Ok(true)
-            }
-            None => Ok(false),
+        if is_byte_port {
+            let fits = self.take_port(alloc, name, way, address)?;
+            Ok(fits)
+        } else {
+            Ok(false)
         }
     }
 
-    fn take_to(&mut self, token: &Token) -> bool
-        requires { length self.old.ports ≤ 256 }
-        ensures { move_at To self.old token.now ≡ given result self.new }
+    fn take_main(&mut self) -> bool
+        ensures { step self.old TheSignature ≡ given result self.new }
     {
-        match named_port(Dir::Out, token, self.ports.as_slice()) {
-            Some(number) => {
-                self.stage = Stage::Value(number);
-                true
-            }
-            None => false,
-        }
-    }
-
-    fn put_write(&mut self, port: u32, argument: Argument) -> Result<(), Memory>
-        ensures { OnOk result (self.new ≡ put_write self.old port argument) }
-    {
-        self.statements.push(Statement::Write(port, argument))?;
-        self.stage = Stage::Written;
-        Ok(())
-    }
-
-    fn take_value(&mut self, port: u32, token: &Token) -> Result<bool, Memory>
-        requires { length self.old.variables ≤ 1000 }
-        ensures { IfOk result (λ fits. move_at (Value port) self.old token.now ≡ given fits self.new) }
-    {
-        if is_mark(token, b'(') {
-            self.stage = Stage::First(port);
-            return Ok(true);
-        }
-        match atom_of(self.variables.as_slice(), token) {
-            Some(atom) => {
-                self.put_write(port, Argument::Atom(atom))?;
-                Ok(true)
-            }
-            None => Ok(false),
-        }
-    }
-
-    fn take_first(&mut self, port: u32, token: &Token) -> bool
-        requires { length self.old.variables ≤ 1000 }
-        ensures { move_at (First port) self.old token.now ≡ given result self.new }
-    {
-        match atom_of(self.variables.as_slice(), token) {
-            Some(atom) => {
-                self.stage = Stage::Between(port, atom);
-                true
-            }
-            None => false,
-        }
-    }
-
-    fn take_operator(&mut self, port: u32, first: Atom, token: &Token) -> bool
-        ensures { move_at (Between port first) self.old token.now ≡ given result self.new }
-    {
-        match operator_of(token) {
-            Some(operator) => {
-                self.stage = Stage::Second(port, first, operator);
-                true
-            }
-            None => false,
-        }
-    }
-
-    fn take_second(&mut self, port: u32, first: Atom, operator: Operator, token: &Token) -> bool
-        requires { length self.old.variables ≤ 1000 }
-        ensures { move_at (Second port first operator) self.old token.now ≡ given result self.new }
-    {
-        match atom_of(self.variables.as_slice(), token) {
-            Some(atom) => {
-                self.stage = Stage::Closing(port, first, operator, atom);
-                true
-            }
-            None => false,
-        }
-    }
-
-    fn take_closing(&mut self, port: u32, argument: Argument, token: &Token) -> Result<bool, Memory>
-        ensures { IfOk result (λ fits. given (same_token token.now (mark ")")) (put_write self.old port argument) ≡ given fits self.new) }
-    {
-        if !is_mark(token, b')') {
-            return Ok(false);
-        }
-        self.put_write(port, argument)?;
-        Ok(true)
-    }
-
-    fn take_written(&mut self, token: &Token) -> bool
-        ensures { move_at Written self.old token.now ≡ given result self.new }
-    {
-        if is_mark(token, b';') {
-            if self.statements.len() >= 1000 {
-                return false;
-            }
-            self.stage = Stage::Line;
-            return true;
-        }
-        if !is_mark(token, b'}') {
+        if !self.stage.in_ports() || !has_port(Dir::Out, self.ports.as_slice()) {
             return false;
         }
-        self.stage = Stage::Fixed(Fixed::LastClose);
+        self.stage = Stage::Equation;
         true
     }
 
-    /// Takes the next token, if it may stand here. After a token that may not, the reader is not used again.
-    #[tactic(auto, unfolding(crate::specs::Moves::step))]
-    pub fn take(&mut self, alloc: Global, token: &Token) -> Result<bool, Memory>
-        requires ports { length self.old.ports ≤ 256 }
-        requires variables { length self.old.variables ≤ 1000 }
-        ensures { IfOk result (λ fits. step self.old token.now ≡ given fits self.new) }
+    /// Takes a signature, if it may stand here.
+    pub fn take_signature(&mut self, names: &Names, sig: &Sig) -> bool
+        ensures { step self.old (signature_item names.now sig.now) ≡ given result self.new }
     {
-        let fits = match self.stage {
-            Stage::Fixed(fixed) => self.take_fixed(fixed, token),
-            Stage::Next => self.take_next(token),
-            Stage::Name => self.take_name(alloc, token)?,
-            Stage::Direction => self.take_direction(token),
-            Stage::Address(way) => self.take_address(way, token),
-            Stage::PortEnd(way, address) => self.take_port_end(alloc, way, address, token)?,
-            Stage::Line => self.take_line(alloc, token)?,
-            Stage::From => self.take_from(alloc, token)?,
-            Stage::To => self.take_to(token),
-            Stage::Value(port) => self.take_value(port, token)?,
-            Stage::First(port) => self.take_first(port, token),
-            Stage::Between(port, a) => self.take_operator(port, a, token),
-            Stage::Second(port, a, operator) => self.take_second(port, a, operator, token),
-            Stage::Closing(port, a, operator, b) => {
-                self.take_closing(port, Argument::Operation(a, operator, b), token)?
+        if is_main_signature(names, sig) {
+            self.take_main()
+        } else {
+            false
+        }
+    }
+
+    /// Takes the equation of `main`, if it may stand here.
+    pub fn take_equation(&mut self) -> bool
+        ensures { step self.old TheEquation ≡ given result self.new }
+    {
+        if !self.stage.at_equation() {
+            return false;
+        }
+        self.stage = Stage::Statements;
+        true
+    }
+
+    fn may_read(&self, name: &[u8]) -> bool
+        ensures { result ≡ may_read self.now name.now }
+    {
+        self.stage.in_body()
+            && self.statements.len() < 999
+            && is_new_name(self.ports.as_slice(), self.variables.as_slice(), name)
+    }
+
+    fn put_read(&mut self, alloc: Global, name: &[u8], number: Option<u32>) -> Result<bool, Memory>
+        ensures { IfOk result (λ fits. put_read self.old name.now number ≡ given fits self.new) }
+    {
+        match number {
+            Some(number) => {
+                let name = Text::of(Vec::from_slice(alloc, name)?);
+                self.variables.push(name)?;
+                self.statements.push(Statement::Read(number))?;
+                self.stage = Stage::Statements;
+                Ok(true)
             }
-            Stage::Written => self.take_written(token),
-            Stage::End => false,
-        };
+            None => Ok(false),
+        }
+    }
+
+    fn take_read(&mut self, alloc: Global, name: &[u8], port: &[u8]) -> Result<bool, Memory>
+        requires { IsSmall self.old }
+        ensures { IfOk result (λ fits. step self.old (ARead name.now port.now) ≡ given fits self.new) }
+    {
+        if !self.may_read(name) {
+            return Ok(false);
+        }
+        let number = find_port(Dir::In, port, self.ports.as_slice());
+        let fits = self.put_read(alloc, name, number)?;
         Ok(fits)
+    }
+
+    fn may_write(&self) -> bool
+        ensures { result ≡ may_write self.now }
+    {
+        self.stage.in_body() && self.statements.len() < 1000
+    }
+
+    fn put_write(&mut self, number: Option<u32>, argument: Option<Argument>) -> Result<bool, Memory>
+        ensures { IfOk result (λ fits. put_write self.old number argument ≡ given fits self.new) }
+    {
+        match (number, argument) {
+            (Some(number), Some(argument)) => {
+                self.statements.push(Statement::Write(number, argument))?;
+                self.stage = Stage::Written;
+                Ok(true)
+            }
+            _ => Ok(false),
+        }
+    }
+
+    /// Takes a write, if it may stand here.
+    fn take_write(&mut self, port: &[u8], argument: Option<Argument>) -> Result<bool, Memory>
+        requires { IsSmall self.old }
+        ensures { IfOk result (λ fits. written self.old port.now argument ≡ given fits self.new) }
+    {
+        if !self.may_write() {
+            return Ok(false);
+        }
+        let number = find_port(Dir::Out, port, self.ports.as_slice());
+        let fits = self.put_write(number, argument)?;
+        Ok(fits)
+    }
+
+    fn take_named_write(
+        &mut self,
+        names: &Names,
+        port: Option<Name>,
+        argument: Option<Argument>,
+    ) -> Result<bool, Memory>
+        requires { IsSmall self.old }
+        ensures { IfOk result (λ fits. named_write self.old names.now port argument ≡ given fits self.new) }
+    {
+        match port {
+            Some(port) => {
+                let fits = self.take_write(text_of(names, port), argument)?;
+                Ok(fits)
+            }
+            None => Ok(false),
+        }
+    }
+
+    /// Takes a call of `writePort`, if it may stand here.
+    #[tactic(auto, using(crate::proofs::ArgumentLaws::write_is))]
+    fn take_call(&mut self, names: &Names, f: &Expr, port: &Expr, x: &Expr) -> Result<bool, Memory>
+        requires { IsSmall self.old }
+        ensures { IfOk result (λ fits. step self.old (if is_variable names.now (codes "writePort") f.now then write_of names.now (variable_of port.now) (given_of names.now x.now) else Other) ≡ given fits self.new) }
+    {
+        if !is_variable(names, b"writePort", f) {
+            return Ok(false);
+        }
+        let argument = argument_at(names, self.variables.as_slice(), x);
+        let fits = self.take_named_write(names, variable_of(port), argument)?;
+        Ok(fits)
+    }
+
+    /// Takes an expression as a statement, if it may stand here.
+    pub fn take_do(&mut self, names: &Names, expr: &Expr) -> Result<bool, Memory>
+        requires { IsSmall self.old }
+        ensures { IfOk result (λ fits. step self.old (do_item names.now expr.now) ≡ given fits self.new) }
+    {
+        match &expr.kind {
+            ExprKind::Apply(call, x) => match &call.kind {
+                ExprKind::Apply(f, port) => {
+                    let fits = self.take_call(names, f, port, x)?;
+                    Ok(fits)
+                }
+                _ => Ok(false),
+            },
+            _ => Ok(false),
+        }
+    }
+
+    fn take_named_read(
+        &mut self,
+        alloc: Global,
+        names: &Names,
+        name: Name,
+        port: Option<Name>,
+    ) -> Result<bool, Memory>
+        requires { IsSmall self.old }
+        ensures { IfOk result (λ fits. step self.old (read_of names.now name port) ≡ given fits self.new) }
+    {
+        match port {
+            Some(port) => {
+                let fits = self.take_read(alloc, text_of(names, name), text_of(names, port))?;
+                Ok(fits)
+            }
+            None => Ok(false),
+        }
+    }
+
+    fn take_call_of_read(
+        &mut self,
+        alloc: Global,
+        names: &Names,
+        name: Name,
+        expr: &Expr,
+    ) -> Result<bool, Memory>
+        requires { IsSmall self.old }
+        ensures { IfOk result (λ fits. step self.old (call_item names.now name expr.now) ≡ given fits self.new) }
+    {
+        match &expr.kind {
+            ExprKind::Apply(f, x) => {
+                if !is_variable(names, b"readPort", f) {
+                    return Ok(false);
+                }
+                let fits = self.take_named_read(alloc, names, name, variable_of(x))?;
+                Ok(fits)
+            }
+            _ => Ok(false),
+        }
+    }
+
+    /// Takes a pattern with what is matched as a statement, if it may stand here.
+    pub fn take_take(
+        &mut self,
+        alloc: Global,
+        names: &Names,
+        pat: &Pat,
+        expr: &Expr,
+    ) -> Result<bool, Memory>
+        requires { IsSmall self.old }
+        ensures { IfOk result (λ fits. step self.old (take_item names.now pat.now expr.now) ≡ given fits self.new) }
+    {
+        match &pat.kind {
+            PatKind::Var(name) => {
+                let fits = self.take_call_of_read(alloc, names, *name, expr)?;
+                Ok(fits)
+            }
+            _ => Ok(false),
+        }
     }
 }

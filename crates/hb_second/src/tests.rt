@@ -1,58 +1,56 @@
-use crate::read::{ReadError, read_source};
+use crate::making::Making;
+use crate::reading::{FormError, read_source};
 use crate::source::{Argument, Atom, Operator, Source, Statement};
 use hb_base::{Dir, Place};
+use hb_tree::Expr;
 use std::alloc::Global;
 use std::test::Fail;
 
-const ECHO_SUM: &[u8] =
-    b"{ port rx :: In (Bit 8) at X80000000; port tx :: Out (Bit 8) at X80000004; main :: M Unit; main = do { x <- readPort rx; y <- readPort rx; writePort tx (x + y) } }";
+/// The line of the end of each text.
+const END: u32 = 2000;
 
-const HEAD: &[u8] = b"{ port tx :: Out (Bit 8) at X80000000; main :: M Unit; main = do {";
+fn at_end() -> Place {
+    Place { line: END, col: 1 }
+}
 
-/// The source that the bytes are read as.
-fn read(alloc: Global, bytes: &[u8]) -> Option<Source> {
-    if bytes.len() > 1_048_576 {
-        return None;
-    }
-    match read_source(alloc, bytes) {
+/// The source that the tree is read as.
+fn found(alloc: Global, making: Making) -> Option<Source> {
+    let (program, names) = making.done();
+    match read_source(alloc, &program, &names, at_end()) {
         Ok(source) => Some(source),
         Err(_error) => None,
     }
 }
 
-/// The place at which the bytes are refused.
-fn refused(alloc: Global, bytes: &[u8]) -> Option<Place> {
-    if bytes.len() > 1_048_576 {
-        return None;
-    }
-    match read_source(alloc, bytes) {
-        Err(ReadError::Syntax(place)) => Some(place),
+/// The line at which the tree is refused.
+fn refused(alloc: Global, making: Making) -> Option<u32> {
+    let (program, names) = making.done();
+    match read_source(alloc, &program, &names, at_end()) {
+        Err(FormError::Form(place)) => Some(place.line),
         _ => None,
     }
 }
 
-fn at(line: u32, col: u32) -> Option<Place> {
-    Some(Place { line, col })
-}
-
-/// The head and so many writes, each on a line of its own.
-fn writes(alloc: Global, number: usize) -> Result<Vec<u8>, Fail> {
-    let mut bytes = Vec::from_slice(alloc, HEAD)?;
-    for i in 0..number {
-        if i > 0 {
-            bytes.push(b';')?;
-        }
-        bytes.extend_from_slice(b"\nwritePort tx X41")?;
-    }
-    bytes.extend_from_slice(b" } }")?;
-    Ok(bytes)
+/// The ports of an echo on lines 1 and 2, the signature on line 3, and the beginning of the equation on line 4.
+fn begun(alloc: Global) -> Result<Making, Fail> {
+    let mut making = Making::new(alloc)?;
+    making.port(b"rx", Dir::In, 0x8000_0000)?;
+    making.port(b"tx", Dir::Out, 0x8000_0004)?;
+    making.signature()?;
+    making.open();
+    Ok(making)
 }
 
 #[test]
-fn two_reads_and_the_write_of_their_sum(rt: HostRuntime) {
-    let read = read(rt.alloc(), ECHO_SUM);
-    assert!(rt; read.is_some());
-    if let Some(source) = read {
+fn an_echo_is_its_source(rt: HostRuntime) -> Result<(), Fail> {
+    let mut making = begun(rt.alloc())?;
+    making.read(b"x", b"rx")?;
+    let x = making.variable(b"x")?;
+    making.write(b"tx", x)?;
+    making.close()?;
+    let found = found(rt.alloc(), making);
+    assert!(rt; found.is_some());
+    if let Some(source) = found {
         let ports = source.ports.as_slice();
         assert_eq!(rt; ports.len(), 2);
         if let [rx, tx] = ports {
@@ -62,60 +60,109 @@ fn two_reads_and_the_write_of_their_sum(rt: HostRuntime) {
             assert_eq!(rt; rx.address, 0x8000_0000);
             assert_eq!(rt; tx.name.as_slice(), b"tx".as_slice());
             assert_eq!(rt; tx.dir, Dir::Out);
-            assert_eq!(rt; tx.address, 0x8000_0004);
         }
-        let sum = Argument::Operation(Atom::Variable(0), Operator::Add, Atom::Variable(1));
         let want = [
             Statement::Read(0),
-            Statement::Read(0),
-            Statement::Write(1, sum),
+            Statement::Write(1, Argument::Atom(Atom::Variable(0))),
         ];
-        assert_eq!(rt; source.statements.as_slice(), want.as_slice());
-    }
-}
-
-#[test]
-fn one_write(rt: HostRuntime) -> Result<(), Fail> {
-    let alloc = rt.alloc();
-    let bytes = writes(alloc, 1)?;
-    let read = read(alloc, bytes.as_slice());
-    assert!(rt; read.is_some());
-    if let Some(source) = read {
-        let want = [Statement::Write(0, Argument::Atom(Atom::Literal(0x41)))];
         assert_eq!(rt; source.statements.as_slice(), want.as_slice());
     }
     Ok(())
 }
 
 #[test]
-fn an_empty_do(rt: HostRuntime) {
-    let bytes = b"{ port tx :: Out (Bit 8) at X80000000; main :: M Unit; main = do { } }";
-    assert_eq!(rt; refused(rt.alloc(), bytes), at(1, 68));
+fn a_difference_keeps_the_order_of_its_operands(rt: HostRuntime) -> Result<(), Fail> {
+    let mut making = begun(rt.alloc())?;
+    making.read(b"x", b"rx")?;
+    let difference = making.difference(b"x", 1)?;
+    making.write(b"tx", difference)?;
+    making.close()?;
+    let found = found(rt.alloc(), making);
+    assert!(rt; found.is_some());
+    if let Some(source) = found {
+        let difference = Argument::Operation(Atom::Variable(0), Operator::Sub, Atom::Literal(1));
+        let want = [Statement::Read(0), Statement::Write(1, difference)];
+        assert_eq!(rt; source.statements.as_slice(), want.as_slice());
+    }
+    Ok(())
 }
 
 #[test]
-fn an_in_port_alone(rt: HostRuntime) {
-    let bytes = b"{ port tx :: In (Bit 8) at X80000000; main :: M Unit; main = do { } }";
-    assert_eq!(rt; refused(rt.alloc(), bytes), at(1, 39));
+fn without_an_out_port_the_signature_is_wrong(rt: HostRuntime) -> Result<(), Fail> {
+    let mut making = Making::new(rt.alloc())?;
+    making.port(b"rx", Dir::In, 0x8000_0000)?;
+    making.signature()?;
+    assert_eq!(rt; refused(rt.alloc(), making), Some(2));
+    Ok(())
 }
 
 #[test]
-fn a_repeated_name(rt: HostRuntime) {
-    let bytes = b"{ port tx :: Out (Bit 8) at X80000000; port tx :: Out (Bit 8) at X80000001; main";
-    assert_eq!(rt; refused(rt.alloc(), bytes), at(1, 45));
+fn a_port_in_memory_is_wrong(rt: HostRuntime) -> Result<(), Fail> {
+    let mut making = Making::new(rt.alloc())?;
+    making.port(b"rx", Dir::In, 0x8000_0000)?;
+    making.port(b"tx", Dir::Out, 0x7FFF_FFFF)?;
+    assert_eq!(rt; refused(rt.alloc(), making), Some(2));
+    Ok(())
 }
 
 #[test]
-fn a_text_that_ends_too_early(rt: HostRuntime) {
-    assert_eq!(rt; refused(rt.alloc(), b"{\nport"), at(2, 5));
+fn a_second_port_of_a_name_is_wrong(rt: HostRuntime) -> Result<(), Fail> {
+    let mut making = Making::new(rt.alloc())?;
+    making.port(b"tx", Dir::Out, 0x8000_0000)?;
+    making.port(b"tx", Dir::Out, 0x8000_0001)?;
+    assert_eq!(rt; refused(rt.alloc(), making), Some(2));
+    Ok(())
 }
 
 #[test]
-fn a_thousand_statements_and_one_more(rt: HostRuntime) -> Result<(), Fail> {
-    let alloc = rt.alloc();
-    let most = writes(alloc, 1000)?;
-    assert!(rt; read(alloc, most.as_slice()).is_some());
-    let more = writes(alloc, 1001)?;
-    assert_eq!(rt; refused(alloc, more.as_slice()), at(1001, 17));
+fn a_statement_that_names_no_variable_is_wrong(rt: HostRuntime) -> Result<(), Fail> {
+    let mut making = begun(rt.alloc())?;
+    making.read(b"x", b"rx")?;
+    let y = making.variable(b"y")?;
+    making.write(b"tx", y)?;
+    making.close()?;
+    assert_eq!(rt; refused(rt.alloc(), making), Some(6));
+    Ok(())
+}
+
+#[test]
+fn a_literal_of_nine_bits_is_wrong(rt: HostRuntime) -> Result<(), Fail> {
+    let mut making = begun(rt.alloc())?;
+    let wide = Expr::bits(making.place(), 9, 1);
+    making.write(b"tx", wide)?;
+    making.close()?;
+    assert_eq!(rt; refused(rt.alloc(), making), Some(5));
+    Ok(())
+}
+
+#[test]
+fn after_a_last_read_a_write_is_missing_at_the_end(rt: HostRuntime) -> Result<(), Fail> {
+    let mut making = begun(rt.alloc())?;
+    making.read(b"x", b"rx")?;
+    making.close()?;
+    assert_eq!(rt; refused(rt.alloc(), making), Some(END));
+    Ok(())
+}
+
+#[test]
+fn a_port_after_the_equation_is_wrong(rt: HostRuntime) -> Result<(), Fail> {
+    let mut making = begun(rt.alloc())?;
+    let zero = Expr::bits(making.place(), 8, 0);
+    making.write(b"tx", zero)?;
+    making.close()?;
+    making.port(b"ty", Dir::Out, 0x8000_0008)?;
+    assert_eq!(rt; refused(rt.alloc(), making), Some(6));
+    Ok(())
+}
+
+#[test]
+fn the_last_of_a_thousand_and_one_statements_is_wrong(rt: HostRuntime) -> Result<(), Fail> {
+    let mut making = begun(rt.alloc())?;
+    for _ in 0..1001u32 {
+        let zero = Expr::bits(making.place(), 8, 0);
+        making.write(b"tx", zero)?;
+    }
+    making.close()?;
+    assert_eq!(rt; refused(rt.alloc(), making), Some(1005));
     Ok(())
 }

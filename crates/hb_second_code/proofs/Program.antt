@@ -1,6 +1,6 @@
--- A source that bytes spell keeps the rules of a program.
+-- A source of the second form keeps the rules of a program.
 use Rattle.std.proofs.Common.{◌≡◌, ◌≢◌, ℕ, zero, suc, ◌+◌, ◌*◌, ◌<◌, ◌≤◌, ◌^◌, inl, inr, ⊎_elim, Bool, true, false, List, [], ◌∷◌, ◌++◌, length, drop, map, get_or, Option, Some, None, refl, ap, sym, subst, ◌∙◌, arith, length-append}
-use Rattle.std.specs.Prelude.{◌&&◌, ◌||◌, not, ◌==◌, nat_le, if◌then◌else◌, option_map, position, slice_index, All, AllPairs, IsSomeAnd}
+use Rattle.std.specs.Prelude.{◌&&◌, ◌||◌, not, ◌==◌, nat_le, nat_lt, if◌then◌else◌, option_map, position, All, AllPairs, IsSomeAnd}
 use Rattle.std.specs.List.{list_any, list_all}
 use Rattle.std.specs.Str.{bytes_eq}
 use Rattle.std.proofs.lemmas.Bool.{and_parts, and_from, or_left, or_parts, not-true, not_from_false, cases_lt}
@@ -15,20 +15,18 @@ use Rattle.hb_base.specs.Ports.{IsPort, AreApart, HaveTwoNames}
 use Rattle.hb_base.specs.declared.port.Port.{Port}
 use Rattle.hb_base.specs.declared.port.Dir.{Dir}
 use Rattle.hb_base.specs.declared.port.Dir.TheVariants.{In, Out}
-use Rattle.hb_second.specs.declared.token.Placed.{Placed}
-use Rattle.hb_second.specs.declared.token.Token.{Token}
-use Rattle.hb_second.specs.declared.token.Token.TheVariants.{Word, Symbols, Colons, Mark}
+use Rattle.hb_tree.specs.declared.declaration.Program.{Program}
 use Rattle.hb_second.specs.declared.source.Atom.{Atom}
 use Rattle.hb_second.specs.declared.source.Atom.TheVariants.{Literal, Variable}
+use Rattle.hb_second.specs.declared.source.Operator.{Operator}
 use Rattle.hb_second.specs.declared.source.Argument.{Argument}
+use Rattle.hb_second.specs.declared.source.Argument.TheVariants.{Atom as OneAtom, Operation}
 use Rattle.hb_second.specs.declared.source.Statement.{Statement}
 use Rattle.hb_second.specs.declared.source.Statement.TheVariants.{Read, Write}
 use Rattle.hb_second.specs.declared.source.Source.{Source}
-use Rattle.hb_second.specs.Scan.{tokens_of, scan}
-use Rattle.hb_second.specs.Literals.{digit_value, byte_at, byte_value, address_value}
-use Rattle.hb_second.specs.Names.{taken_words, is_the_word, is_short_lower, is_free_name, same_way, find_port, atom_of}
-use Rattle.hb_second.specs.Form.{IsNextPort, port_of, Ports, no_port, one_port_more, ArgumentIs, atom, operation, Body, no_statement, one_read_more, one_write_more}
-use Rattle.hb_second.specs.Spelling.{Spells}
+use Rattle.hb_second.specs.Names.{taken_words, is_short_lower, is_free_name, same_way, find_port}
+use Rattle.hb_second.specs.Items.{Word, Byte, Called, Given, One, Two, Item, items_of, without_places}
+use Rattle.hb_second.specs.Form.{IsNextPort, port_of, Ports, no_port, one_port_more, atom_of, operation_of, argument_of, Body, no_statement, one_read_more, one_write_more, Form, IsForm}
 use Rattle.hb_second_code.specs.Rules.{GoesAt, IsAtom, IsArgument, AreStatements, IsProgram}
 use Rattle.hb_second_code.specs.Lowering.{reads}
 
@@ -40,35 +38,23 @@ same_texts [] (d ∷ ds) = refl
 same_texts (c ∷ cs) [] = refl
 same_texts (c ∷ cs) (d ∷ ds) = ap (λ same. (c == d) && same) (same_texts cs ds)
 
--- words among tokens are the same words by themselves
-words_among : (name : List ℕ) (words : List (List ℕ)) → list_any (is_the_word name) (map Word words) ≡ list_any (same_text name) words
+words_among : (name : List ℕ) (words : List (List ℕ)) → list_any (bytes_eq name) words ≡ list_any (same_text name) words
 words_among name [] = refl
 words_among name (w ∷ ws) =
-    ap (λ same. same || list_any (is_the_word name) (map Word ws)) (same_texts name w)
+    ap (λ same. same || list_any (bytes_eq name) ws) (same_texts name w)
     ∙ ap (λ others. same_text name w || others) (words_among name ws)
 
-abbrev taken : List Token
-taken = map (λ (word : Placed). word.token) taken_words
-
 -- the reserved words are the first that are taken
-reserved_first : taken ≡ map Word reserved_words ++ drop 23 taken
-unfolding taken_words tokens_of scan
+reserved_first : taken_words ≡ reserved_words ++ drop 23 taken_words
 reserved_first = refl
 
--- words with their places are the same words without them
-without_places :
-    (name : List ℕ) (words : List Placed)
-    → list_any (λ (word : Placed). is_the_word name word.token) words ≡ list_any (is_the_word name) (map (λ (word : Placed). word.token) words)
-without_places name [] = refl
-without_places name (w ∷ ws) = ap (λ others. is_the_word name w.token || others) (without_places name ws)
-
-not_reserved : (name : List ℕ) → list_any (is_the_word name) taken ≡ false → list_any (same_text name) reserved_words ≡ false
+not_reserved : (name : List ℕ) → list_any (bytes_eq name) taken_words ≡ false → list_any (same_text name) reserved_words ≡ false
 not_reserved name h =
     let split =
-    ap (list_any (is_the_word name)) reserved_first
-    ∙ list_any-append (is_the_word name) (map Word reserved_words) (drop 23 taken) in
+    ap (list_any (bytes_eq name)) reserved_first
+    ∙ list_any-append (bytes_eq name) reserved_words (drop 23 taken_words) in
     let front =
-    or_parts (list_any (is_the_word name) (map Word reserved_words)) (list_any (is_the_word name) (drop 23 taken))
+    or_parts (list_any (bytes_eq name) reserved_words) (list_any (bytes_eq name) (drop 23 taken_words))
     (sym split ∙ h) in
     sym (words_among name reserved_words) ∙ front.0
 
@@ -87,35 +73,17 @@ variable (c ∷ d ∷ cs) some h =
 
 free_is_port : (name : List ℕ) → is_free_name name ≡ true → is_port_name name ≡ true
 free_is_port name h =
-    let free = and_parts (is_short_lower name) (not (list_any (λ (word : Placed). is_the_word name word.token) taken_words)) h in
+    let free = and_parts (is_short_lower name) (not (list_any (bytes_eq name) taken_words)) h in
     let short = and_parts (nat_le 1 (length name)) (nat_le (length name) 64 && list_all is_lower name) free.0 in
     let lower = and_parts (nat_le (length name) 64) (list_all is_lower name) short.1 in
-    let none = not_reserved name (sym (without_places name taken_words) ∙ not-true _ free.1) in
+    let none = not_reserved name (not-true _ free.1) in
     and_from (nat_le (length name) 64) _ lower.0
     (and_from (is_variable name) _ (variable name short.0 lower.1) (not_from_false (list_any (same_text name) reserved_words) none))
 
--- ---- what digits stand for is bounded
-
-digit_below : (c : ℕ) → digit_value c < 16
-digit_below c = grind (arith, nat_tests)
-
-two_below : (a b : ℕ) → a < 16 → b < 16 → 16 * a + b < 256
-two_below a b low high = omega arith
-
-byte_below : (w : List ℕ) (place : ℕ) → byte_at w place < 256
-byte_below w place =
-    two_below (digit_value (slice_index w place)) (digit_value (slice_index w (place + 1)))
-    (digit_below (slice_index w place)) (digit_below (slice_index w (place + 1)))
-
-four_below : (a b c d : ℕ) → a < 256 → b < 256 → c < 256 → d < 256 → 0x100_0000 * a + (0x1_0000 * b + (0x100 * c + d)) < 2 ^ 32
-four_below a b c d e f g h = omega arith
-
-address_below : (w : List ℕ) → address_value w < 2 ^ 32
-address_below w =
-    four_below (byte_at w 1) (byte_at w 3) (byte_at w 5) (byte_at w 7)
-    (byte_below w 1) (byte_below w 3) (byte_below w 5) (byte_below w 7)
-
 -- ---- the ports
+
+lt_from : (m n : ℕ) → nat_lt m n ≡ true → m < n
+lt_from m n h = grind (arith, nat_tests)
 
 port_fits :
     (name : List ℕ) (way : Dir) (address : ℕ)
@@ -181,7 +149,7 @@ one_more ports port kept fits one address name = record {
 }
 
 next_port :
-    (ports : List Port) (name : List ℕ) (way : Dir) (address : List ℕ)
+    (ports : List Port) (name : List ℕ) (way : Dir) (address : ℕ)
     → Kept ports
     → IsNextPort ports name address
     → Kept (ports ++ port_of name way address ∷ [])
@@ -189,19 +157,19 @@ next_port ports name way address kept next =
     let new = and_parts (is_free_name name) _ next.new_name in
     let names = and_parts (not (list_any (λ (p : Port). bytes_eq name p.name) ports)) _ new.1 in
     one_more ports (port_of name way address) kept
-    (port_fits name way (address_value address) new.0 next.high (address_below address))
+    (port_fits name way address new.0 next.high next.within)
     refl
     (not-true _ next.new_address)
     (not-true _ names.0)
 
-ports_kept : (ports : List Port) (ts : List Token) → Ports ports ts → Kept ports
-ports_kept ports ts no_port = record {
+ports_kept : (ports : List Port) (items : List Item) → Ports ports items → Kept ports
+ports_kept ports items no_port = record {
   each = All-nil IsPort;
   bytes = All-nil (λ (port : Port). port.width ≡ 1);
   apart = no_pair AreApart;
   distinct = no_pair HaveTwoNames;
 }
-ports_kept ports ts (one_port_more before us name way address form next) = next_port before name way address (ports_kept before us form) next
+ports_kept ports items (one_port_more before us name way address form next) = next_port before name way address (ports_kept before us form) next
 
 -- ---- the statements
 
@@ -220,29 +188,35 @@ found_goes way name ports number h =
     subst (λ o. IsSomeAnd o (λ (port : Port). port.dir ≡ way)) (sym (slice_get-get_or ports number none found.0)) (same_ways _ way goes.0)
 
 -- a literal is a byte, and a name that is found is a variable that is bound
-by_word :
-    (variables : List (List ℕ)) (w : List ℕ) (a : Atom) (b : Bool) (o : Option ℕ)
-    → position (bytes_eq w) variables ≡ o
-    → (if b then Some (Literal (byte_value w)) else option_map Variable o) ≡ Some a
-    → IsAtom (length variables) a
-by_word variables w a true o found h = subst (IsAtom (length variables)) (same_Some (Literal (byte_value w)) a h) (byte_below w 1)
-by_word variables w a false None found h = absurd (cc)
-by_word variables w a false (Some number) found h =
+literal_fits : (bound value : ℕ) (a : Atom) (b : Bool) → nat_lt value 256 ≡ b → (if b then Some (Literal value) else None) ≡ Some a → IsAtom bound a
+literal_fits bound value a true below h =
+    let small : value < 256 = lt_from value 256 below in
+    subst (IsAtom bound) (same_Some (Literal value) a h) small
+literal_fits bound value a false below h = absurd (cc)
+
+variable_fits : (variables : List (List ℕ)) (name : List ℕ) (a : Atom) (o : Option ℕ) → position (bytes_eq name) variables ≡ o → option_map Variable o ≡ Some a → IsAtom (length variables) a
+variable_fits variables name a None found h = absurd (cc)
+variable_fits variables name a (Some number) found h =
     subst (IsAtom (length variables)) (same_Some (Variable number) a h)
-    (position-Some (bytes_eq w) variables number [] found).0
+    (position-Some (bytes_eq name) variables number [] found).0
 
-atom_fits : (variables : List (List ℕ)) (t : Token) (a : Atom) → atom_of variables t ≡ Some a → IsAtom (length variables) a
-atom_fits variables (Word w) a h = by_word variables w a _ (position (bytes_eq w) variables) refl h
-atom_fits variables (Symbols w) a h = absurd (cc)
-atom_fits variables Colons a h = absurd (cc)
-atom_fits variables (Mark c) a h = absurd (cc)
+atom_fits : (variables : List (List ℕ)) (w : Word) (a : Atom) → atom_of variables w ≡ Some a → IsAtom (length variables) a
+atom_fits variables (Byte value) a h = literal_fits (length variables) value a (nat_lt value 256) refl h
+atom_fits variables (Called name) a h = variable_fits variables name a (position (bytes_eq name) variables) refl h
 
-argument_fits :
-    (variables : List (List ℕ)) (argument : Argument) (ts : List Token)
-    → ArgumentIs variables argument ts
-    → IsArgument (length variables) argument
-argument_fits variables argument ts (atom t a h) = atom_fits variables t a h
-argument_fits variables argument ts (operation s o t a op b first between second) = (atom_fits variables s a first, atom_fits variables t b second)
+one_fits : (bound : ℕ) (argument : Argument) (o : Option Atom) → ((a : Atom) → o ≡ Some a → IsAtom bound a) → option_map OneAtom o ≡ Some argument → IsArgument bound argument
+one_fits bound argument None fits h = absurd (cc)
+one_fits bound argument (Some a) fits h = subst (IsArgument bound) (same_Some (OneAtom a) argument h) (fits a refl)
+
+two_fit : (bound : ℕ) (argument : Argument) (operator : Operator) (o p : Option Atom) → ((a : Atom) → o ≡ Some a → IsAtom bound a) → ((b : Atom) → p ≡ Some b → IsAtom bound b) → operation_of o (Some operator) p ≡ Some argument → IsArgument bound argument
+two_fit bound argument operator None p fits fit h = absurd (cc)
+two_fit bound argument operator (Some a) None fits fit h = absurd (cc)
+two_fit bound argument operator (Some a) (Some b) fits fit h = subst (IsArgument bound) (same_Some (Operation a operator b) argument h) (fits a refl, fit b refl)
+
+argument_fits : (variables : List (List ℕ)) (words : Given) (argument : Argument) → argument_of variables words ≡ Some argument → IsArgument (length variables) argument
+argument_fits variables (One w) argument h = one_fits (length variables) argument (atom_of variables w) (atom_fits variables w) h
+argument_fits variables (Two v operator w) argument h =
+    two_fit (length variables) argument operator (atom_of variables v) (atom_of variables w) (atom_fits variables v) (atom_fits variables w) h
 
 -- one statement more, where the variables of those before it are bound
 statement_more :
@@ -282,27 +256,36 @@ known_more ports bound ss s more known last e =
     }
 
 body_known :
-    (ports : List Port) (writes : Bool) (variables : List (List ℕ)) (ss : List Statement) (ts : List Token)
-    → Body ports writes variables ss ts
+    (ports : List Port) (writes : Bool) (variables : List (List ℕ)) (ss : List Statement) (items : List Item)
+    → Body ports writes variables ss items
     → Known ports (length variables) ss
-body_known ports writes variables ss ts no_statement = record { count = refl; fits = tt }
-body_known ports writes variables ss ts (one_read_more last names before us name port number body new found) =
+body_known ports writes variables ss items no_statement = record { count = refl; fits = tt }
+body_known ports writes variables ss items (one_read_more last names before us name port number body new found) =
     known_more ports (length names) before (Read number) _ (body_known ports last names before us body)
     (found_goes In port ports number found, tt) (length-append names (name ∷ []))
-body_known ports writes variables ss ts (one_write_more last names before us port number argument words body found given) =
+body_known ports writes variables ss items (one_write_more last names before us port number words argument body found given) =
     known_more ports (length names) before (Write number argument) _ (body_known ports last names before us body)
-    (found_goes Out port ports number found, argument_fits names argument words given, tt) (omega arith)
+    (found_goes Out port ports number found, argument_fits names words argument given, tt) (omega arith)
 
 -- ---- the whole source
 
--- a source that bytes spell is a program
-pub program_of : (bytes : List ℕ) (source : Source) → Spells bytes source → IsProgram source
-program_of bytes source spells =
-    let kept = ports_kept source.ports spells.form.port_tokens spells.form.ports in
-    let known = body_known source.ports true spells.form.variables source.statements spells.form.body_tokens spells.form.body in
+-- ports of the form, and statements that keep the rules
+pub program_over : (ports : List Port) (items : List Item) (ss : List Statement) → Ports ports items → length ports ≤ 256 → length ss ≤ 1000 → AreStatements ports 0 ss → IsProgram (record { ports = ports; statements = ss })
+program_over ports items ss form few short statements =
+    let kept = ports_kept ports items form in
     record {
-      rules = record { few = spells.form.few_ports; each = kept.each; apart = kept.apart; distinct = kept.distinct };
+      rules = record { few = few; each = kept.each; apart = kept.apart; distinct = kept.distinct };
       bytes = kept.bytes;
-      few = spells.form.few_statements;
-      statements = known.fits;
+      few = short;
+      statements = statements;
     }
+
+-- a source of the second form is a program
+pub form_program : (items : List Item) (source : Source) → Form items source → IsProgram source
+form_program items source form =
+    let known = body_known source.ports true form.variables source.statements form.body_items form.body in
+    program_over source.ports form.port_items source.statements form.ports form.few_ports form.few_statements known.fits
+
+-- the source that the tree of a program is, is a program
+pub program_of : (names : List (List ℕ)) (program : Program) (source : Source) → IsForm names program source → IsProgram source
+program_of names program source form = form_program (without_places (items_of names program)) source form

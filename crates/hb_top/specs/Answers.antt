@@ -7,7 +7,7 @@ use Rattle.hb_io.specs.Counts.{Rose}
 use Rattle.hb_io.specs.Taken.{TookFront}
 use Rattle.hb_mach.specs.State.{start}
 use Rattle.hb_words.specs.declared.words.Command.{Command}
-use Rattle.hb_top.specs.declared.failure.Refusal.{Refusal}
+use Rattle.hb_base.specs.declared.refusal.Refusal.{Refusal}
 use Rattle.hb_top.specs.declared.failure.NoImage.{NoImage}
 use Rattle.hb_top.specs.declared.failure.Failure.{Failure}
 use Rattle.hb_top.specs.declared.failure.Failure.TheVariants.{Words, Refused, Script, Image as ImageRefused, Read}

@@ -19,7 +19,7 @@ use Rattle.hb_second.specs.declared.source.Source.{Source}
 use Rattle.hb_words.specs.declared.words.Command.{Command}
 use Rattle.hb_words.specs.declared.words.Command.TheVariants.{Run, Exec}
 use Rattle.hb_words.specs.Words.{Reads}
-use Rattle.hb_top.specs.declared.failure.Refusal.{Refusal}
+use Rattle.hb_base.specs.declared.refusal.Refusal.{Refusal}
 use Rattle.hb_top.specs.declared.failure.NoImage.{NoImage}
 use Rattle.hb_top.specs.declared.failure.NoImage.TheVariants.{Short, Bad}
 use Rattle.hb_top.specs.declared.failure.Failure.{Failure}

@@ -1,7 +1,12 @@
 -- What each step of preparing may answer.
-use Rattle.std.specs.Prelude.{◌≡◌, ℕ, List, Result, Ok, Err, Vec}
+use Rattle.std.specs.Prelude.{◌≡◌, ℕ, List, Result, Ok, Err, Vec, codes}
 use Rattle.std.specs.declared.alloc.Global.{Global}
+use Rattle.hb_base.specs.declared.place.Place.{Place}
 use Rattle.hb_base.specs.declared.port.Port.{Port}
+use Rattle.hb_base.specs.declared.refusal.Code.TheVariants.{E05}
+use Rattle.hb_base.specs.declared.refusal.Fault.{Fault}
+use Rattle.hb_base.specs.declared.refusal.Fault.TheVariants as fault
+use Rattle.hb_base.specs.declared.refusal.Refusal.{Refusal}
 use Rattle.hb_base.specs.declared.script.Script.{Script as Inputs}
 use Rattle.hb_base.specs.declared.script.ScriptLine.{ScriptLine}
 use Rattle.hb_base.specs.Inputs.{AreInputs}
@@ -13,6 +18,9 @@ use Rattle.hb_io.specs.Files.{written, HoldsFront}
 use Rattle.hb_mach.specs.State.{State, start}
 use Rattle.hb_script.specs.Scripts.{script_of}
 use Rattle.hb_second.specs.declared.source.Source.{Source}
+use Rattle.hb_second.specs.Form.{IsForm}
+use Rattle.hb_second.specs.Wrong.{FirstWrong}
+use Rattle.hb_tree.specs.declared.declaration.Program.{Program}
 use Rattle.hb_words.specs.declared.words.Command.{Command}
 use Rattle.hb_words.specs.Words.{Reads}
 use Rattle.hb_top.specs.declared.failure.Failure.{Failure}
@@ -43,6 +51,29 @@ ReadsFile old new name cap (Err (ImageRefused fault)) = ⊥
 ReadsFile old new name cap (Err Read) = ReadFault old new
 ReadsFile old new name cap (Err Write) = ⊥
 ReadsFile old new name cap (Err Memory) = new ≡ old
+
+-- the failure of a pass over a source
+abbrev pub failure_of : Fault → Failure
+failure_of (fault.Refused refusal) = Refused refusal
+failure_of fault.Memory = Memory
+
+-- the program, whose text ends here, is no source of the form that is compiled; first at this refusal's place
+pub record IsOtherForm (names : List (List ℕ)) (program : Program) (end : Place) (refusal : Refusal) : Type 0 where
+  pub nothing : (source : Source) → ¬ IsForm names program source
+  pub place : Place
+  pub first : FirstWrong names program end place
+  pub is : refusal ≡ record { code = E05; place = place; detail = codes "form" }
+
+-- what becomes of a program as a source
+abbrev pub JudgesForm : List (List ℕ) → Program → Place → Result Source Failure → Type 0
+JudgesForm names program end (Ok source) = IsForm names program source
+JudgesForm names program end (Err Words) = ⊥
+JudgesForm names program end (Err (Refused refusal)) = IsOtherForm names program end refusal
+JudgesForm names program end (Err (Script number)) = ⊥
+JudgesForm names program end (Err (ImageRefused fault)) = ⊥
+JudgesForm names program end (Err Read) = ⊥
+JudgesForm names program end (Err Write) = ⊥
+JudgesForm names program end (Err Memory) = Unit {0}
 
 -- what becomes of bytes as a source
 abbrev pub JudgesSource : List ℕ → Result Source Failure → Type 0

@@ -2,7 +2,7 @@
 use Rattle.std.specs.Prelude.{ℕ, zero, suc, List, [], ◌∷◌, ◌++◌, codes, decimal}
 use Rattle.hb_image.specs.declared.image.Image.{Image}
 use Rattle.hb_image.specs.declared.fault.Field.{Field}
-use Rattle.hb_image.specs.declared.fault.Field.TheVariants.{Magic, Version, Ports, Areas, Stack as StackField, Code, Kind, Width, Length, Address, Name, Words as WordsField, Tail}
+use Rattle.hb_image.specs.declared.fault.Field.TheVariants.{Magic, Version, Ports, Areas, Stack as StackField, Code as CodeField, Kind, Width, Length, Address, Name, Words as WordsField, Tail}
 use Rattle.hb_base.specs.declared.script.ScriptLine.{ScriptLine}
 use Rattle.hb_base.specs.declared.place.Place.{Place}
 use Rattle.hb_base.specs.declared.step.Stop.{Stop}
@@ -13,8 +13,9 @@ use Rattle.hb_script.specs.Ends.{end_of}
 use Rattle.hb_mach.specs.State.{State, start}
 use Rattle.hb_mach.specs.Table.{table}
 use Rattle.hb_mach.specs.Run.{shown, stop_of}
-use Rattle.hb_top.specs.declared.failure.Refusal.{Refusal}
-use Rattle.hb_top.specs.declared.failure.Refusal.TheVariants.{SourceLong, Syntax}
+use Rattle.hb_base.specs.declared.refusal.Refusal.{Refusal}
+use Rattle.hb_base.specs.declared.refusal.Code.{Code}
+use Rattle.hb_base.specs.declared.refusal.Code.TheVariants.{E01, E02, E03, E04, E05, E06, E07, E08, E09, E10, E11, E12, E13, E14, E15, E16, E17, E18, E19, E20, E21, E22, E23, E24, E25, E26, E27, E28, E29, E30}
 use Rattle.hb_top.specs.declared.failure.NoImage.{NoImage}
 use Rattle.hb_top.specs.declared.failure.NoImage.TheVariants.{Short, Bad}
 use Rattle.hb_top.specs.declared.failure.Failure.{Failure}
@@ -26,9 +27,44 @@ use Rattle.hb_top.specs.declared.failure.Failure.TheVariants.{Words, Refused, Sc
 abbrev pub place_text : Place → List ℕ
 place_text place = decimal place.line ++ 58 ∷ decimal place.col
 
+abbrev pub code_name : Code → List ℕ
+code_name E01 = codes "E01"
+code_name E02 = codes "E02"
+code_name E03 = codes "E03"
+code_name E04 = codes "E04"
+code_name E05 = codes "E05"
+code_name E06 = codes "E06"
+code_name E07 = codes "E07"
+code_name E08 = codes "E08"
+code_name E09 = codes "E09"
+code_name E10 = codes "E10"
+code_name E11 = codes "E11"
+code_name E12 = codes "E12"
+code_name E13 = codes "E13"
+code_name E14 = codes "E14"
+code_name E15 = codes "E15"
+code_name E16 = codes "E16"
+code_name E17 = codes "E17"
+code_name E18 = codes "E18"
+code_name E19 = codes "E19"
+code_name E20 = codes "E20"
+code_name E21 = codes "E21"
+code_name E22 = codes "E22"
+code_name E23 = codes "E23"
+code_name E24 = codes "E24"
+code_name E25 = codes "E25"
+code_name E26 = codes "E26"
+code_name E27 = codes "E27"
+code_name E28 = codes "E28"
+code_name E29 = codes "E29"
+code_name E30 = codes "E30"
+
+-- the line of a refusal up to its detail, and the whole of it
+abbrev pub refusal_head : Refusal → List ℕ
+refusal_head r = codes "refused " ++ (code_name r.code ++ (32 ∷ (place_text r.place ++ (32 ∷ []))))
+
 abbrev pub refusal_line : Refusal → List ℕ
-refusal_line SourceLong = codes "refused E30 1:1 -" ++ 10 ∷ []
-refusal_line (Syntax place) = codes "refused E04 " ++ place_text place ++ codes " -" ++ 10 ∷ []
+refusal_line r = refusal_head r ++ (r.detail ++ 10 ∷ [])
 
 -- the name of a field of an image
 abbrev pub field_name : Field → List ℕ
@@ -37,7 +73,7 @@ field_name Version = codes "version"
 field_name Ports = codes "ports"
 field_name Areas = codes "areas"
 field_name StackField = codes "stack"
-field_name Code = codes "code"
+field_name CodeField = codes "code"
 field_name Kind = codes "kind"
 field_name Width = codes "width"
 field_name Length = codes "length"

@@ -35,6 +35,6 @@ pub fn habit<F: Shelf, O: Sink>(
 {
     match prepare(alloc, words, shelf) {
         Ok(prepared) => execute(prepared.machine, prepared.steps, out),
-        Err(failure) => report(failure, out),
+        Err(failure) => report(&failure, out),
     }
 }

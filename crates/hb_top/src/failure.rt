@@ -1,14 +1,5 @@
-use hb_base::Place;
+use hb_base::Refusal;
 use hb_image::Field;
-
-/// Why bytes are no source: the first rule that they break.
-#[derive(Clone, Copy, Debug, PartialEq, Eq)]
-pub enum Refusal {
-    /// There are more than 1,048,576 bytes.
-    SourceLong,
-    /// No source goes on with the token here, or the bytes end too early here.
-    Syntax(Place),
-}
 
 /// Why bytes are no image.
 #[derive(Clone, Copy, Debug, PartialEq, Eq)]
@@ -20,7 +11,7 @@ pub enum NoImage {
 }
 
 /// Why there is no run.
-#[derive(Clone, Copy, Debug, PartialEq, Eq)]
+#[derive(Debug, Drop)]
 pub enum Failure {
     /// The words are no command.
     Words,

@@ -1,12 +1,12 @@
 ghost use Rattle.std.specs.Prelude.{◌≡◌, ◌≤◌, ◌+◌, ◌++◌, ◌∷◌, [], List, ℕ, length, take, codes};
-ghost use Rattle.hb_top.specs.declared.failure.Failure.TheVariants.{Memory, Script, Image};
+ghost use Rattle.hb_top.specs.declared.failure.Failure.TheVariants.{Script, Image};
 ghost use Rattle.hb_top.specs.Executing.{Tells, TellsFailure};
 ghost use Rattle.hb_top.specs.Texts;
-ghost use Rattle.hb_top.specs.Texts.{line_of, status_of_failure, field_name, no_image_name, refusal_line, place_text};
+ghost use Rattle.hb_top.specs.Texts.{line_of, field_name, no_image_name, code_name, refusal_head, refusal_line, place_text};
 ghost use Rattle.hb_top.specs.World.{printed};
 
-use crate::failure::{Failure, NoImage, Refusal};
-use hb_base::Place;
+use crate::failure::{Failure, NoImage};
+use hb_base::{Code, Place, Refusal};
 use hb_image::Field;
 use hb_io::{Failed, Sink};
 use hb_script::buffer::{ROOM, put, put_number, put_text};
@@ -67,18 +67,54 @@ fn put_place(buffer: &mut [u8; ROOM], at: usize, place: Place) -> usize
     put_number(buffer, end, u64::from(place.col))
 }
 
-fn put_refusal(buffer: &mut [u8; ROOM], refusal: Refusal) -> usize
-    ensures within { result ≤ 128 }
-    ensures text { take result buffer.new ≡ refusal_line refusal }
+fn code_name(code: Code) -> &'static [u8]
+    ensures name { result.now ≡ code_name code }
+    ensures short { length result.now ≤ 3 }
 {
-    match refusal {
-        Refusal::SourceLong => put_line(buffer, 0, b"refused E30 1:1 -"),
-        Refusal::Syntax(place) => {
-            let end = put_text(buffer, 0, b"refused E04 ");
-            let end = put_place(buffer, end, place);
-            put_line(buffer, end, b" -")
-        }
+    match code {
+        Code::E01 => b"E01",
+        Code::E02 => b"E02",
+        Code::E03 => b"E03",
+        Code::E04 => b"E04",
+        Code::E05 => b"E05",
+        Code::E06 => b"E06",
+        Code::E07 => b"E07",
+        Code::E08 => b"E08",
+        Code::E09 => b"E09",
+        Code::E10 => b"E10",
+        Code::E11 => b"E11",
+        Code::E12 => b"E12",
+        Code::E13 => b"E13",
+        Code::E14 => b"E14",
+        Code::E15 => b"E15",
+        Code::E16 => b"E16",
+        Code::E17 => b"E17",
+        Code::E18 => b"E18",
+        Code::E19 => b"E19",
+        Code::E20 => b"E20",
+        Code::E21 => b"E21",
+        Code::E22 => b"E22",
+        Code::E23 => b"E23",
+        Code::E24 => b"E24",
+        Code::E25 => b"E25",
+        Code::E26 => b"E26",
+        Code::E27 => b"E27",
+        Code::E28 => b"E28",
+        Code::E29 => b"E29",
+        Code::E30 => b"E30",
     }
+}
+
+/// Writes the line of a refusal up to its detail.
+fn put_head(buffer: &mut [u8; ROOM], refusal: &Refusal) -> usize
+    ensures within { result ≤ 128 }
+    ensures text { take result buffer.new ≡ refusal_head refusal.now }
+{
+    let end = put_text(buffer, 0, b"refused ");
+    let end = put_text(buffer, end, code_name(refusal.code));
+    let end = put(buffer, end, b' ');
+    let end = put_place(buffer, end, refusal.place);
+    put(buffer, end, b' ')
 }
 
 fn put_script(buffer: &mut [u8; ROOM], number: u32) -> usize
@@ -98,36 +134,6 @@ fn put_no_image(buffer: &mut [u8; ROOM], fault: NoImage) -> usize
     put_line(buffer, end, no_image_name(fault))
 }
 
-/// Writes the line of a failure into the front of the buffer, and answers its length: 0 for want of memory.
-fn put_failure(buffer: &mut [u8; ROOM], failure: Failure) -> usize
-    ensures within { result ≤ 128 }
-    ensures text { take result buffer.new ≡ line_of failure }
-{
-    match failure {
-        Failure::Words => put_line(buffer, 0, b"words refused"),
-        Failure::Refused(refusal) => put_refusal(buffer, refusal),
-        Failure::Script(number) => put_script(buffer, number),
-        Failure::Image(fault) => put_no_image(buffer, fault),
-        Failure::Read => put_line(buffer, 0, b"read fault"),
-        Failure::Write => put_line(buffer, 0, b"write fault"),
-        Failure::Memory => 0,
-    }
-}
-
-fn status_of(failure: Failure) -> u8
-    ensures { result ≡ status_of_failure failure }
-{
-    match failure {
-        Failure::Words => 2,
-        Failure::Refused(_) => 1,
-        Failure::Script(_) => 3,
-        Failure::Image(_) => 10,
-        Failure::Read => 4,
-        Failure::Write => WRITE_FAULT,
-        Failure::Memory => NO_MEMORY,
-    }
-}
-
 /// Puts a whole text: the status is `good`, or that of a put that failed.
 fn tell<O: Sink>(text: &[u8], good: u8, out: &mut O) -> u8
     ensures { Tells text.now good (printed (O.taken out.old) (O.faults out.old)) (printed (O.taken out.new) (O.faults out.new)) result }
@@ -138,21 +144,57 @@ fn tell<O: Sink>(text: &[u8], good: u8, out: &mut O) -> u8
     }
 }
 
-/// Puts the line of a failure.
-fn tell_failure<O: Sink>(failure: Failure, out: &mut O) -> u8
-    ensures { Tells (line_of failure) (status_of_failure failure) (printed (O.taken out.old) (O.faults out.old)) (printed (O.taken out.new) (O.faults out.new)) result }
+/// Puts the detail of a refusal, and the end of its line.
+fn tell_detail<O: Sink>(detail: &[u8], out: &mut O) -> u8
+    ensures { Tells (detail.now ++ 10 ∷ []) 1 (printed (O.taken out.old) (O.faults out.old)) (printed (O.taken out.new) (O.faults out.new)) result }
 {
-    let mut buffer = [0; ROOM];
-    let length = put_failure(&mut buffer, failure);
-    tell(&buffer[..length], status_of(failure), out)
+    match out.put(detail) {
+        Ok(()) => tell(b"\n", 1, out),
+        Err(Failed) => WRITE_FAULT,
+    }
 }
 
-/// Puts the line of a failure. For want of memory nothing is put.
-pub fn report<O: Sink>(failure: Failure, out: &mut O) -> u8
-    ensures { TellsFailure failure (printed (O.taken out.old) (O.faults out.old)) (printed (O.taken out.new) (O.faults out.new)) result }
+/// Puts the line of a refusal.
+fn tell_refusal<O: Sink>(refusal: &Refusal, out: &mut O) -> u8
+    ensures { Tells (refusal_line refusal.now) 1 (printed (O.taken out.old) (O.faults out.old)) (printed (O.taken out.new) (O.faults out.new)) result }
+{
+    let mut buffer = [0; ROOM];
+    let length = put_head(&mut buffer, refusal);
+    match out.put(&buffer[..length]) {
+        Ok(()) => tell_detail(refusal.detail.as_slice(), out),
+        Err(Failed) => WRITE_FAULT,
+    }
+}
+
+/// Puts the line of a refused script.
+fn tell_script<O: Sink>(number: u32, out: &mut O) -> u8
+    ensures { Tells (line_of (Script number)) 3 (printed (O.taken out.old) (O.faults out.old)) (printed (O.taken out.new) (O.faults out.new)) result }
+{
+    let mut buffer = [0; ROOM];
+    let length = put_script(&mut buffer, number);
+    tell(&buffer[..length], 3, out)
+}
+
+/// Puts the line of a refused image.
+fn tell_no_image<O: Sink>(fault: NoImage, out: &mut O) -> u8
+    ensures { Tells (line_of (Image fault)) 10 (printed (O.taken out.old) (O.faults out.old)) (printed (O.taken out.new) (O.faults out.new)) result }
+{
+    let mut buffer = [0; ROOM];
+    let length = put_no_image(&mut buffer, fault);
+    tell(&buffer[..length], 10, out)
+}
+
+/// Puts the line of a failure, and answers its status. For want of memory nothing is put.
+pub fn report<O: Sink>(failure: &Failure, out: &mut O) -> u8
+    ensures { TellsFailure failure.now (printed (O.taken out.old) (O.faults out.old)) (printed (O.taken out.new) (O.faults out.new)) result }
 {
     match failure {
+        Failure::Words => tell(b"words refused\n", 2, out),
+        Failure::Refused(refusal) => tell_refusal(refusal, out),
+        Failure::Script(number) => tell_script(*number, out),
+        Failure::Image(fault) => tell_no_image(*fault, out),
+        Failure::Read => tell(b"read fault\n", 4, out),
+        Failure::Write => tell(b"write fault\n", WRITE_FAULT, out),
         Failure::Memory => NO_MEMORY,
-        _ => tell_failure(failure, out),
     }
 }

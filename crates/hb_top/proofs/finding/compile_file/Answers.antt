@@ -3,4 +3,5 @@ use Rattle.hb_top.proofs.finding.compile_file.Goals as goal
 
 pub build-requires : goal.build-requires
 build-requires g c =
-    program_of c.in_ok-source.ensures.0.bytes c.in_ok-source.source c.in_ok-source.ensures.0.accepted.spelled
+    let accepted = c.in_ok-source.ensures.0.accepted in
+    program_of accepted.names accepted.program c.in_ok-source.source accepted.form

@@ -1,7 +1,6 @@
 use Rattle.std.proofs.Common.{arith}
-use Rattle.hb_top.proofs.PreparingLaws.{no_source}
+use Rattle.hb_top.proofs.SourceLaws.{long_judged}
 use Rattle.hb_top.proofs.judging.source_of.Goals as goal
 
-pub returns-in-Err-Syntax : goal.returns-in-Err-Syntax
-returns-in-Err-Syntax c =
-    no_source c.args.bytes.now c.in-Err-Syntax.field-0 c.in-Err-Syntax.place c.in-Err-Syntax.field-0-is (omega (arith, c.if-bytes.false)) c.in-Err-Syntax.ensures.only c.in-Err-Syntax.ensures.place
+pub returns-then-bytes : goal.returns-then-bytes
+returns-then-bytes c = rw c.failed.ensures (long_judged c.args.bytes.now c.refused.result (omega (arith, c.if-bytes.true)) c.refused.ensures)

@@ -1,0 +1,13 @@
+pub mod Dropping
+pub mod Pushing
+pub mod Posts
+pub mod MarkingLaws
+pub mod WalkingLaws
+pub mod FirstLaws
+pub mod FormLaws
+pub mod TypePosts
+pub mod PatPosts
+pub mod ExprPosts
+pub mod DeclPosts
+pub mod Answered
+pub mod Derived

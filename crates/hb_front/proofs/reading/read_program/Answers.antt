@@ -1,0 +1,32 @@
+use Rattle.std.proofs.Common.{rules}
+use Rattle.hb_tokens.specs.Faults.{IfRefused}
+use Rattle.hb_front.specs.Front.{FirstFault}
+use Rattle.hb_front.proofs.FaultLaws.{laying_fault, grammar_fault}
+use Rattle.hb_front.proofs.OnceLaws.{parsed_is_laid, parsed_only, parsed_answer}
+use Rattle.hb_front.proofs.reading.read_program.Goals as goal
+
+pub returns-in_err-laid-clause-faults : goal.returns-in_err-laid-clause-faults
+returns-in_err-laid-clause-faults c =
+    let first : IfRefused (FirstFault c.args.names.now c.args.bytes.now) c.in_err-laid.field-0.0 =
+    laying_fault c.args.names.now c.args.bytes.now c.in_err-laid.field-0.0 c.in_err-laid.ensures.faults in
+    search (rules, first)
+
+pub returns-in_err-laid-clause-only : goal.returns-in_err-laid-clause-only
+returns-in_err-laid-clause-only c table p other =
+    let memory = parsed_is_laid c.in_err-laid.ensures.only other in
+    search (rules, memory)
+
+pub returns-in_err-program-clause-faults : goal.returns-in_err-program-clause-faults
+returns-in_err-program-clause-faults c =
+    let first : IfRefused (FirstFault c.args.names.now c.args.bytes.now) c.in_err-program.field-0.0 =
+    grammar_fault c.args.names.now c.args.bytes.now c.laid_tokens.new.names c.in_ok-laid.laid.list c.in_err-program.field-0.0 c.in_ok-laid.ensures.found c.in_err-program.ensures.faults in
+    search (rules, first)
+
+pub returns-in_err-program-clause-only : goal.returns-in_err-program-clause-only
+returns-in_err-program-clause-only c table p other =
+    let memory = parsed_only c.in_ok-laid.ensures.only c.in_err-program.ensures.only other in
+    search (rules, memory)
+
+pub returns-clause-only : goal.returns-clause-only
+returns-clause-only c table p other =
+    parsed_answer c.in_ok-laid.ensures.only c.in_ok-program.ensures.only other
