@@ -24,7 +24,7 @@ use Rattle.hb_read_expressions.specs.Nodes.{put, wrapped}
 use Rattle.hb_read_expressions.specs.declared.node.ExprNode.TheVariants as node
 use Rattle.hb_read_expressions.specs.declared.state.State.{State}
 use Rattle.hb_read_expressions.specs.declared.state.Core.{Core}
-use Rattle.hb_read_expressions.specs.Moves.{move, move_state, move_alone, done, equation_start}
+use Rattle.hb_read_expressions.specs.Moves.{moved, move_state, move_alone, done, equation_start}
 use Rattle.hb_read_expressions.specs.States.{at, end_post, begun_of}
 use Rattle.hb_read_expressions.specs.Outside.{move_core, after_post}
 use Rattle.hb_read_expressions.specs.Inside.{move_row_left, move_bind_start, move_row_var, move_row_open, move_alt_start, with_pats, in_pattern, if_done, next_param, end_params, row_infix, alt_arrow, stmt_arrow}
@@ -121,8 +121,8 @@ state_other : {k : TokenKind} (side : Bool) (core : Core) (pats : PatReader) (p 
 state_other false core pats p o = alone_other core.last core.frames core.nodes pats p o
 state_other {k} true core pats p o = ap (move_both core pats (token_of p k)) o.outside ∙ both_other core pats p o
 
-other_refused : (s : State) (t : Token) → IsOther t.kind → move s t ≡ None
-unfolding move
+other_refused : (s : State) (t : Token) → IsOther t.kind → moved s t ≡ None
+unfolding moved
 other_refused s t o = state_other s.beside s.core s.pats t.place o
 
 colons_other : IsOther (kinds.Word word.DoubleColon)
@@ -219,8 +219,8 @@ kind_begins pats p (kinds.Mark byte) e = mark_begins pats p byte e
 kind_begins pats p kinds.Dot e = not_begun (at [] (now.RowLeft 0 p) []) _ (start_other (token_at p kinds.Dot) refl) e
 kind_begins pats p kinds.End e = not_begun (at [] (now.RowLeft 0 p) []) _ (start_other (token_at p kinds.End) refl) e
 
-pub equation_begins : (pats : PatReader) (t : Token) {r : State} → move (equation_start pats) t ≡ Some r → member (code t) equation_codes ≡ true
-unfolding move
+pub equation_begins : (pats : PatReader) (t : Token) {r : State} → moved (equation_start pats) t ≡ Some r → member (code t) equation_codes ≡ true
+unfolding moved
 equation_begins pats t e = kind_begins pats t.place t.kind (ap is_some e)
 
 -- what goes on with a whole equation
@@ -280,7 +280,7 @@ goes_by : (b : Bool) {P : Type 0} → (b ≡ false → ⊥) → (b ≡ true → 
 goes_by true f g = g refl
 goes_by false f g = absurd (f refl)
 
-pub equation_ends : (s r : State) (t : Token) {nodes : List ExprNode} → done s ≡ Some nodes → move s t ≡ Some r → member (code t) going_codes ≡ true
+pub equation_ends : (s r : State) (t : Token) {nodes : List ExprNode} → done s ≡ Some nodes → moved s t ≡ Some r → member (code t) going_codes ≡ true
 equation_ends s r t {nodes} d e = goes_by (goes_on (sort_of t.kind)) (λ g. some_none e (ends_before s nodes d t g)) (λ g. kind_goes t.kind g)
 
 -- all that is known of it
@@ -315,7 +315,7 @@ not_false : (b : Bool) → b ≡ false → not b ≡ true
 not_false false e = refl
 not_false true e = cc
 
-pub equation_takes : (s r : State) (t : Token) → move s t ≡ Some r → inside (code t) ≡ true
+pub equation_takes : (s r : State) (t : Token) → moved s t ≡ Some r → inside (code t) ≡ true
 equation_takes s r t e = not_false (member (code t) outside_codes) (outside_kind t.kind (member (code t) outside_codes) refl (λ o. some_none e (other_refused s t o)))
 
 equation_nothing : (pats : PatReader) → is_some (done (equation_start pats)) ≡ false

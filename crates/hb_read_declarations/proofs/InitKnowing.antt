@@ -18,7 +18,7 @@ use Rattle.hb_read_expressions.specs.Sorts.{sort_of}
 use Rattle.hb_read_expressions.specs.Nodes.{expr_nodes}
 use Rattle.hb_read_expressions.specs.Exactly.{ExprOf}
 use Rattle.hb_read_expressions.specs.declared.state.State.{State}
-use Rattle.hb_read_expressions.specs.Moves.{move, done, expr_start, expr_reader}
+use Rattle.hb_read_expressions.specs.Moves.{moved, done, expr_start, expr_reader}
 use Rattle.hb_read_expressions.specs.Inside.{with_pats}
 use Rattle.hb_read_expressions.specs.Outside.{begin as begin_expr}
 use Rattle.hb_read_expressions.proofs.Exactness.{expr_reader_is_exact}
@@ -96,8 +96,8 @@ kind_begun pats p (kinds.Mark byte) e = mark_begun pats p byte e
 kind_begun pats p kinds.Dot e = cc
 kind_begun pats p kinds.End e = cc
 
-expr_begins : (pats : PatReader) (t : Token) {r : State} → move (expr_start pats) t ≡ Some r → member (code t) expr_codes ≡ true
-unfolding move
+expr_begins : (pats : PatReader) (t : Token) {r : State} → moved (expr_start pats) t ≡ Some r → member (code t) expr_codes ≡ true
+unfolding moved
 expr_begins pats t e = kind_begun pats t.place t.kind (ap is_some e)
 
 expr_nothing : (pats : PatReader) → is_some (done (expr_start pats)) ≡ false

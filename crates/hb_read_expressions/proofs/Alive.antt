@@ -29,7 +29,7 @@ use Rattle.hb_read_expressions.specs.declared.state.Core.{Core}
 use Rattle.hb_read_expressions.specs.declared.state.State.{State}
 use Rattle.hb_read_expressions.specs.States.{run_at, first_of, end_run, one_more, at, state}
 use Rattle.hb_read_expressions.specs.Ends.{target_node}
-use Rattle.hb_read_expressions.specs.Moves.{move, done, expr_start, equation_start, binds_start, expr_reader, equation_reader, binds_reader}
+use Rattle.hb_read_expressions.specs.Moves.{moved, done, expr_start, equation_start, binds_start, expr_reader, equation_reader, binds_reader}
 use Rattle.hb_read_expressions.proofs.Standing.{IsPost, is_post, WholePost, whole_post, IsDotted, is_dotted, WholeApply, whole_apply, WholeOpen, whole_open, IsOpName, is_op_name, IsConName, is_con_name, IsQuoted, is_quoted, IsQuotedName, is_quoted_name, IsFieldName, is_field_name, AfterWord, AfterOf, after_of, Root, an_expr, an_equation, a_block, Below, RowBelow, InLambda, in_lambda, InParams, in_params, LeftPat, left_pat, InRight, in_right, ForParams, in_pattern, IsRowVar, is_row_var, IsRowOpen, is_row_open, IsRowOp, is_row_op, is_row_left, IsRowQuote, is_row_quote, IsRowQuoted, is_row_quoted, RowWhole, row_whole, BlockWhole, block_whole, IsOver, is_over, StandsAt, running, StandsBeside, Stands}
 use Rattle.hb_tokens.specs.declared.token.TokenKind.TheVariants as kinds
 use Rattle.hb_tree.specs.Patterns as tree_pat
@@ -350,13 +350,13 @@ side_alive laws start root top false core pats ts s b = alone_alive laws start r
 side_alive laws start root top true core pats ts s (running h i (in_pattern k reached f)) = head_finish laws start root top h pats (state core pats true) reached (beside i) (stmts_held k.1)
 
 -- a state that tokens lead to stands, whatever comes then
-reached_stands : (laws : PatLaws) (root : Root) (start : State) {s : State} → ((ts : List Token) → Stands root ts start ts) → Reached (record { start = start; move = move; done = done }) s → (f : List Token → List Token) × ((ts : List Token) → Stands root (f ts) s ts)
+reached_stands : (laws : PatLaws) (root : Root) (start : State) {s : State} → ((ts : List Token) → Stands root ts start ts) → Reached (record { start = start; move = moved; done = done }) s → (f : List Token → List Token) × ((ts : List Token) → Stands root (f ts) s ts)
 reached_stands laws root start begins at_start = (λ ts. ts, begins)
 reached_stands laws root start begins (after {t = t} reached h) =
     let r = reached_stands laws root start begins reached in
     (λ ts. r.0 (t ∷ ts), λ ts. step laws root (r.0 (t ∷ ts)) h (r.1 (t ∷ ts)))
 
-alive_from : (laws : PatLaws) (root : Root) (start : State) {s : State} → ((ts : List Token) → Stands root ts start ts) → Reached (record { start = start; move = move; done = done }) s → StateFinish start s
+alive_from : (laws : PatLaws) (root : Root) (start : State) {s : State} → ((ts : List Token) → Stands root ts start ts) → Reached (record { start = start; move = moved; done = done }) s → StateFinish start s
 alive_from laws root start {s = s} begins reached =
     let r = reached_stands laws root start begins reached in
     let stands = r.1 [] in

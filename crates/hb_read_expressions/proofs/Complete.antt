@@ -42,7 +42,7 @@ use Rattle.hb_read_expressions.specs.Ends.{end_operand, ended, settle, end_binds
 use Rattle.hb_read_expressions.specs.Outside.{move_core, begin_post, begin_operand}
 use Rattle.hb_read_expressions.specs.Inside.{in_pattern, if_done, with_pats, alt_arrow, end_case, move_alt_start, move_bind_start}
 use Rattle.hb_read_expressions.specs.Statements.{move_stmt_start, move_both, both}
-use Rattle.hb_read_expressions.specs.Moves.{move}
+use Rattle.hb_read_expressions.specs.Moves.{moved}
 use Rattle.hb_read_expressions.proofs.Sorting.{Means, means, sort_var}
 use Rattle.hb_read_expressions.proofs.PatStops.{other_stops, start_other, pat_not_start}
 use Rattle.hb_read_expressions.proofs.Steps.{Closed, All, Alone, then_all, then_alone, go, go_alone, both_takes, Posted, post, con, sealed, Applied, applied, applied_ends, whole_ends, EndsHold, close_by, close_alone, Starts, head_starts, operand_starts, want_starts, opened_starts, argument_starts}
@@ -98,12 +98,12 @@ row_last {Q = Q} {ts = ts} k frames b before out h rest = record {
 }
 
 -- between equations
-bind_semicolon : (t : Token) → IsSemicolon t → (frames : List Frame) (b : BlockEnds frames) (n : ℕ) (nodes : List ExprNode) (pats : PatReader) → move (state (at frames (now.BindStart n) nodes) pats false) t ≡ Some (state (at frames (now.BindStart n) nodes) pats false)
-unfolding move
+bind_semicolon : (t : Token) → IsSemicolon t → (frames : List Frame) (b : BlockEnds frames) (n : ℕ) (nodes : List ExprNode) (pats : PatReader) → moved (state (at frames (now.BindStart n) nodes) pats false) t ≡ Some (state (at frames (now.BindStart n) nodes) pats false)
+unfolding moved
 bind_semicolon t h frames b n nodes pats = ap (λ kind. move_bind_start n frames nodes pats t (sort_of kind)) h ∙ ap (with_pats pats) (block_next frames b n nodes)
 
-bind_close : (t : Token) → IsCloseBrace t → (frames : List Frame) (b : BlockEnds frames) (n : ℕ) (nodes : List ExprNode) (pats : PatReader) → move (state (at frames (now.BindStart n) nodes) pats false) t ≡ Some (state (b.after_block n nodes) pats false)
-unfolding move
+bind_close : (t : Token) → IsCloseBrace t → (frames : List Frame) (b : BlockEnds frames) (n : ℕ) (nodes : List ExprNode) (pats : PatReader) → moved (state (at frames (now.BindStart n) nodes) pats false) t ≡ Some (state (b.after_block n nodes) pats false)
+unfolding moved
 bind_close t h frames b n nodes pats = ap (λ kind. move_bind_start n frames nodes pats t (sort_of kind)) h ∙ ap (with_pats pats) (block_end frames b n nodes)
 
 -- the end of alternatives: one is there, or is to come
@@ -119,37 +119,37 @@ case_ends : (begun : Begun) (place : Place) (n : ℕ) (frames : List Frame) (nod
 case_ends begun place zero frames nodes h = absurd (omega arith)
 case_ends begun place (suc n) frames nodes h = refl
 
-alt_semicolon : (t : Token) → IsSemicolon t → (begun : Begun) (place : Place) (n : ℕ) (frames : List Frame) (nodes : List ExprNode) (pats : PatReader) → move (state (at frames (now.AltStart begun place n) nodes) pats false) t ≡ Some (state (at frames (now.AltStart begun place n) nodes) pats false)
-unfolding move
+alt_semicolon : (t : Token) → IsSemicolon t → (begun : Begun) (place : Place) (n : ℕ) (frames : List Frame) (nodes : List ExprNode) (pats : PatReader) → moved (state (at frames (now.AltStart begun place n) nodes) pats false) t ≡ Some (state (at frames (now.AltStart begun place n) nodes) pats false)
+unfolding moved
 alt_semicolon t h begun place n frames nodes pats = ap (λ kind. move_alt_start begun place n frames nodes pats t (sort_of kind)) h
 
-alt_close : (t : Token) → IsCloseBrace t → (begun : Begun) (place : Place) (n : ℕ) (frames : List Frame) (nodes : List ExprNode) (pats : PatReader) → 0 < n → move (state (at frames (now.AltStart begun place n) nodes) pats false) t ≡ Some (state (at frames (now.Whole begun place) (put nodes (node.Case place n))) pats false)
-unfolding move
+alt_close : (t : Token) → IsCloseBrace t → (begun : Begun) (place : Place) (n : ℕ) (frames : List Frame) (nodes : List ExprNode) (pats : PatReader) → 0 < n → moved (state (at frames (now.AltStart begun place n) nodes) pats false) t ≡ Some (state (at frames (now.Whole begun place) (put nodes (node.Case place n))) pats false)
+unfolding moved
 alt_close t h begun place n frames nodes pats some = ap (λ kind. move_alt_start begun place n frames nodes pats t (sort_of kind)) h ∙ ap (with_pats pats) (case_ends begun place n frames nodes some)
 
-stmt_semicolon : (t : Token) → IsSemicolon t → (begun : Begun) (place : Place) (n : ℕ) (may_end : Bool) (frames : List Frame) (nodes : List ExprNode) (pats : PatReader) → move (state (at frames (now.StmtStart begun place n may_end) nodes) pats false) t ≡ Some (state (at frames (now.StmtStart begun place n may_end) nodes) pats false)
-unfolding move
+stmt_semicolon : (t : Token) → IsSemicolon t → (begun : Begun) (place : Place) (n : ℕ) (may_end : Bool) (frames : List Frame) (nodes : List ExprNode) (pats : PatReader) → moved (state (at frames (now.StmtStart begun place n may_end) nodes) pats false) t ≡ Some (state (at frames (now.StmtStart begun place n may_end) nodes) pats false)
+unfolding moved
 stmt_semicolon t h begun place n may_end frames nodes pats = ap (λ kind. move_stmt_start begun place n may_end frames nodes pats t (sort_of kind)) h
 
-stmt_close : (t : Token) → IsCloseBrace t → (begun : Begun) (place : Place) (n : ℕ) (frames : List Frame) (nodes : List ExprNode) (pats : PatReader) → move (state (at frames (now.StmtStart begun place n true) nodes) pats false) t ≡ Some (state (at frames (now.Whole begun place) (put nodes (node.Do place n))) pats false)
-unfolding move
+stmt_close : (t : Token) → IsCloseBrace t → (begun : Begun) (place : Place) (n : ℕ) (frames : List Frame) (nodes : List ExprNode) (pats : PatReader) → moved (state (at frames (now.StmtStart begun place n true) nodes) pats false) t ≡ Some (state (at frames (now.Whole begun place) (put nodes (node.Do place n))) pats false)
+unfolding moved
 stmt_close t h begun place n frames nodes pats = ap (λ kind. move_stmt_start begun place n true frames nodes pats t (sort_of kind)) h
 
 -- the pattern of an alternative and its arrow
-alt_first : (begun : Begun) (place : Place) (n : ℕ) (frames : List Frame) (nodes : List ExprNode) (pats r : PatReader) (t : Token) → pat_move pat_reader.start t ≡ Some r → move (state (at frames (now.AltStart begun place n) nodes) pats false) t ≡ Some (state (at frames (now.AltPat begun place n) nodes) r false)
-unfolding move
+alt_first : (begun : Begun) (place : Place) (n : ℕ) (frames : List Frame) (nodes : List ExprNode) (pats r : PatReader) (t : Token) → pat_move pat_reader.start t ≡ Some r → moved (state (at frames (now.AltStart begun place n) nodes) pats false) t ≡ Some (state (at frames (now.AltPat begun place n) nodes) r false)
+unfolding moved
 alt_first begun place n frames nodes pats r t g = by_sort (sort_of t.kind) (means t) ∙ ap (λ o. in_pattern (at frames (now.AltPat begun place n) nodes) o None) g where
   by_sort : (x : Sort) → Means x t → move_alt_start begun place n frames nodes pats t x ≡ in_pattern (at frames (now.AltPat begun place n) nodes) (pat_reader.move pat_reader.start t) None
   by_sort sort.Semicolon m = absurd (none_some (other_stops pat_reader.start t (ap pat_sort_of m)) g)
   by_sort sort.CloseBrace m = absurd (none_some (other_stops pat_reader.start t (ap pat_sort_of m)) g)
   by_sort x m = refl
 
-pub alt_inside : (begun : Begun) (place : Place) (n : ℕ) (frames : List Frame) (nodes : List ExprNode) (pats r : PatReader) (t : Token) → pat_move pats t ≡ Some r → move (state (at frames (now.AltPat begun place n) nodes) pats false) t ≡ Some (state (at frames (now.AltPat begun place n) nodes) r false)
-unfolding move
+pub alt_inside : (begun : Begun) (place : Place) (n : ℕ) (frames : List Frame) (nodes : List ExprNode) (pats r : PatReader) (t : Token) → pat_move pats t ≡ Some r → moved (state (at frames (now.AltPat begun place n) nodes) pats false) t ≡ Some (state (at frames (now.AltPat begun place n) nodes) r false)
+unfolding moved
 alt_inside begun place n frames nodes pats r t g = ap (λ o. in_pattern (at frames (now.AltPat begun place n) nodes) o (if_done (pat_done pats) (λ pat_nodes. with_pats pats (alt_arrow begun place n frames (nodes ++ wrapped pat_nodes) (sort_of t.kind))))) g
 
-pub alt_arrow_moves : (begun : Begun) (place : Place) (n : ℕ) (frames : List Frame) (nodes : List ExprNode) (pats : PatReader) (out : List PatNode) (t : Token) → IsWord word.RightArrow t → pat_done pats ≡ Some out → move (state (at frames (now.AltPat begun place n) nodes) pats false) t ≡ Some (state (at (frame.Alternative begun place n ∷ frames) now.Want (nodes ++ wrapped out)) pats false)
-unfolding move
+pub alt_arrow_moves : (begun : Begun) (place : Place) (n : ℕ) (frames : List Frame) (nodes : List ExprNode) (pats : PatReader) (out : List PatNode) (t : Token) → IsWord word.RightArrow t → pat_done pats ≡ Some out → moved (state (at frames (now.AltPat begun place n) nodes) pats false) t ≡ Some (state (at (frame.Alternative begun place n ∷ frames) now.Want (nodes ++ wrapped out)) pats false)
+unfolding moved
 alt_arrow_moves begun place n frames nodes pats out t h d =
     ap (λ o. in_pattern (at frames (now.AltPat begun place n) nodes) o (if_done (pat_done pats) (λ pat_nodes. with_pats pats (alt_arrow begun place n frames (nodes ++ wrapped pat_nodes) (sort_of t.kind))))) (other_stops pats t (ap pat_sort_of h))
     ∙ ap (λ o. if_done o (λ pat_nodes. with_pats pats (alt_arrow begun place n frames (nodes ++ wrapped pat_nodes) (sort_of t.kind)))) d
@@ -164,8 +164,8 @@ alt_goes {Q = Q} {ts = ts} {us = us} {t = t} {p = p} laws k d h begun place n fr
           (λ z reached e. k.taken (alt_arrow_moves begun place n frames nodes z (pat_nodes p) t h e) (rest z)))
 
 -- the pattern of a statement and its arrow
-stmt_first : (begun : Begun) (place : Place) (n : ℕ) (may_end : Bool) (frames : List Frame) (nodes : List ExprNode) (pats r : PatReader) (t : Token) → pat_move pat_reader.start t ≡ Some r → move (state (at frames (now.StmtStart begun place n may_end) nodes) pats false) t ≡ move_both (at (frame.Statement begun place n (length nodes) ∷ frames) now.Want nodes) pat_reader.start t (sort_of t.kind)
-unfolding move
+stmt_first : (begun : Begun) (place : Place) (n : ℕ) (may_end : Bool) (frames : List Frame) (nodes : List ExprNode) (pats r : PatReader) (t : Token) → pat_move pat_reader.start t ≡ Some r → moved (state (at frames (now.StmtStart begun place n may_end) nodes) pats false) t ≡ move_both (at (frame.Statement begun place n (length nodes) ∷ frames) now.Want nodes) pat_reader.start t (sort_of t.kind)
+unfolding moved
 stmt_first begun place n may_end frames nodes pats r t g = by_sort (sort_of t.kind) (means t) where
   by_sort : (x : Sort) → Means x t → move_stmt_start begun place n may_end frames nodes pats t x ≡ move_both (at (frame.Statement begun place n (length nodes) ∷ frames) now.Want nodes) pat_reader.start t x
   by_sort sort.Semicolon m = absurd (none_some (other_stops pat_reader.start t (ap pat_sort_of m)) g)
@@ -186,7 +186,7 @@ take_goes {Q = Q} {ts = ts} {us = us} {t = t} {p = p} laws k d h begun place n m
 
 -- the expression of a statement
 stmt_starts : (begun : Begun) (place : Place) (n : ℕ) (may_end : Bool) (frames : List Frame) (nodes : List ExprNode) (pats : PatReader) (ts : List Token) → Starts (begin_operand (First (first_place ts)) (frame.Statement begun place n (length nodes) ∷ frames) nodes) ts (state (at frames (now.StmtStart begun place n may_end) nodes) pats false)
-unfolding move
+unfolding moved
 stmt_starts begun place n may_end frames nodes pats [] = tt
 stmt_starts begun place n may_end frames nodes pats (t ∷ ts) = λ x core h moves.
     let b = both_takes core0 core pat_reader.start (pat_reader.move pat_reader.start t) in

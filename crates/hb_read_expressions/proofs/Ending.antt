@@ -24,7 +24,7 @@ use Rattle.hb_read_expressions.specs.Ends.{settle, close, close_top, end_operand
 use Rattle.hb_read_expressions.specs.Outside.{move_core, after_post}
 use Rattle.hb_read_expressions.specs.Inside.{with_pats}
 use Rattle.hb_read_expressions.specs.Statements.{move_both, both, arrow_at, pattern_alone, cut}
-use Rattle.hb_read_expressions.specs.Moves.{move, move_state, move_alone, done, done_now, end_nodes, outermost_end}
+use Rattle.hb_read_expressions.specs.Moves.{moved, move_state, move_alone, done, done_now, end_nodes, outermost_end}
 
 -- no frame around but those that end with the expression, or an equation by itself
 none_is : {A : Type 0} {a : A} → None ≡ Some a → ⊥
@@ -116,5 +116,5 @@ state_none true core pats t s g = side_none core pats t (sort_of t.kind) s g
 
 -- where a whole is read, only a token is taken that goes on with it
 pub ends_before : (s : State) (nodes : List ExprNode) → done s ≡ Some nodes → EndsBefore s
-unfolding done move
+unfolding done moved
 ends_before s nodes d t g = state_none s.beside s.core s.pats t (stopped s.core.last s.core.frames s.core.nodes nodes d) g

@@ -33,7 +33,7 @@ use Rattle.hb_read_expressions.specs.Ends.{end_operand, settle, close, close_top
 use Rattle.hb_read_expressions.specs.Outside.{move_core, begin_post, begin_operand, after_post, or_else}
 use Rattle.hb_read_expressions.specs.Inside.{stmt_arrow, if_done, with_pats, in_pattern}
 use Rattle.hb_read_expressions.specs.Statements.{cut, both, move_both, arrow_at, pattern_alone}
-use Rattle.hb_read_expressions.specs.Moves.{move}
+use Rattle.hb_read_expressions.specs.Moves.{moved}
 use Rattle.hb_read_expressions.proofs.Sorting.{Means, means}
 use Rattle.hb_read_expressions.proofs.PatStops.{other_stops}
 use Rattle.hb_read_expressions.proofs.Params.{none_some, runs_in}
@@ -301,12 +301,12 @@ headed h core ps r t x m i g = by_core (move_core core.last core.frames core.nod
   by_core (Some next) keeps e = (state next r true, e ∙ ap (both core (Some next) ps) g, beside keeps)
   by_core None keeps e = (state (head_core h) r false, e ∙ ap (both core None ps) g ∙ ap (pattern_alone r) (head_cut h core.frames core.nodes i), alone)
 
-stmt_inside : (h : AHead) (pats r : PatReader) (t : Token) → pat_move pats t ≡ Some r → move (state (head_core h) pats false) t ≡ Some (state (head_core h) r false)
-unfolding move
+stmt_inside : (h : AHead) (pats r : PatReader) (t : Token) → pat_move pats t ≡ Some r → moved (state (head_core h) pats false) t ≡ Some (state (head_core h) r false)
+unfolding moved
 stmt_inside h pats r t g = ap (λ o. in_pattern (head_core h) o (if_done (pat_done pats) (λ pat_nodes. with_pats pats (stmt_arrow h.begun h.place h.statements h.frames (h.nodes ++ wrapped pat_nodes) (sort_of t.kind))))) g
 
-both_moves : (core : Core) (ps : PatReader) (t : Token) → move (state core ps true) t ≡ move_both core ps t (sort_of t.kind)
-unfolding move
+both_moves : (core : Core) (ps : PatReader) (t : Token) → moved (state core ps true) t ≡ move_both core ps t (sort_of t.kind)
+unfolding moved
 both_moves core ps t = refl
 
 -- a statement's pattern, from its head on
@@ -318,8 +318,8 @@ headed_runs k h (taking {s = ps} {r = r} {t = t} g runs) reached rest s (beside 
     k.taken (both_moves core ps t ∙ m.1) (headed_runs k h runs (after reached g) rest m.0 m.2)
 
 -- the arrow after a statement's pattern
-pub arrow_moves : (h : AHead) (r : PatReader) {nodes : List PatNode} (s : State) (t : Token) → IsWord word.LeftArrow t → pat_done r ≡ Some nodes → Headed h r s → move s t ≡ Some (state (at (frame.Taken h.begun h.place h.statements ∷ h.frames) now.Want (h.nodes ++ wrapped nodes)) r false)
-unfolding move
+pub arrow_moves : (h : AHead) (r : PatReader) {nodes : List PatNode} (s : State) (t : Token) → IsWord word.LeftArrow t → pat_done r ≡ Some nodes → Headed h r s → moved s t ≡ Some (state (at (frame.Taken h.begun h.place h.statements ∷ h.frames) now.Want (h.nodes ++ wrapped nodes)) r false)
+unfolding moved
 arrow_moves h r {nodes = out} s t a d alone =
     ap (λ o. in_pattern (head_core h) o (if_done (pat_done r) (λ pat_nodes. with_pats r (stmt_arrow h.begun h.place h.statements h.frames (h.nodes ++ wrapped pat_nodes) (sort_of t.kind))))) (other_stops r t (ap pat_sort_of a))
     ∙ ap (λ o. if_done o (λ pat_nodes. with_pats r (stmt_arrow h.begun h.place h.statements h.frames (h.nodes ++ wrapped pat_nodes) (sort_of t.kind)))) d

@@ -14,5 +14,7 @@ pub mod Finishing
 pub mod Alive
 pub mod PatQuiet
 pub mod Exactness
+pub mod Asked
+pub mod Heading
 pub mod Ending
 pub mod NodesLaws

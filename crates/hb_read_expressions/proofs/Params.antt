@@ -24,7 +24,7 @@ use Rattle.hb_read_expressions.specs.declared.state.Core.{Core}
 use Rattle.hb_read_expressions.specs.declared.state.State.{State}
 use Rattle.hb_read_expressions.specs.States.{at, state}
 use Rattle.hb_read_expressions.specs.Inside.{in_pattern, if_done, next_param, end_params, with_pats}
-use Rattle.hb_read_expressions.specs.Moves.{move}
+use Rattle.hb_read_expressions.specs.Moves.{moved}
 use Rattle.hb_read_expressions.proofs.Sorting.{Means, means}
 use Rattle.hb_read_expressions.proofs.PatStops.{start_square, start_other, not_start}
 use Rattle.hb_read_expressions.proofs.Steps.{Closed, Takes}
@@ -52,18 +52,18 @@ first_follows t sort.Backquote m h = absurd (none_some (start_other t (ap pat_so
 first_follows t x m h = refl
 
 -- a whole run of a reader of patterns, where each of its moves is one of the reader of expressions
-pub runs_in : {R : Reader PatReader (List PatNode)} {Q : State → List Token → Type 0} {core : Core} {ps : PatReader} {ts us : List Token} {nodes : List PatNode} → Closed Q → ((pats r : PatReader) (t : Token) → R.move pats t ≡ Some r → move (state core pats false) t ≡ Some (state core r false)) → Runs R ps ts nodes us → Reached R ps → ((r : PatReader) → Reached R r → R.done r ≡ Some nodes → Q (state core r false) us) → Q (state core ps false) ts
+pub runs_in : {R : Reader PatReader (List PatNode)} {Q : State → List Token → Type 0} {core : Core} {ps : PatReader} {ts us : List Token} {nodes : List PatNode} → Closed Q → ((pats r : PatReader) (t : Token) → R.move pats t ≡ Some r → moved (state core pats false) t ≡ Some (state core r false)) → Runs R ps ts nodes us → Reached R ps → ((r : PatReader) → Reached R r → R.done r ≡ Some nodes → Q (state core r false) us) → Q (state core ps false) ts
 runs_in k inside (stop {s = s} h) reached rest = rest s reached h
 runs_in k inside (take {s = s} {r = r} {t = t} h runs) reached rest = k.taken (inside s r t h) (runs_in k inside runs (after reached h) rest)
 
-pub param_inside : (purpose : Purpose) (before : ℕ) (frames : List Frame) (nodes : List ExprNode) (pats r : PatReader) (t : Token) → pat_move pats t ≡ Some r → move (state (at frames (now.Param purpose before) nodes) pats false) t ≡ Some (state (at frames (now.Param purpose before) nodes) r false)
-unfolding move
+pub param_inside : (purpose : Purpose) (before : ℕ) (frames : List Frame) (nodes : List ExprNode) (pats r : PatReader) (t : Token) → pat_move pats t ≡ Some r → moved (state (at frames (now.Param purpose before) nodes) pats false) t ≡ Some (state (at frames (now.Param purpose before) nodes) r false)
+unfolding moved
 param_inside purpose before frames nodes pats r t h = ap (λ o. in_pattern (at frames (now.Param purpose before) nodes) o (if_done (pat_done pats) (λ pat_nodes. next_param purpose (before + 1) frames (nodes ++ wrapped pat_nodes) pats t))) h
 
 -- from this state so many simple patterns were read
 abbrev pub NextAt : Purpose → ℕ → List Frame → List ExprNode → List Token → State → Type 0
 NextAt purpose count frames nodes [] s = Unit {0}
-NextAt purpose count frames nodes (t ∷ ts) s = may_follow (sort_of t.kind) ≡ true → (pats : PatReader) × (move s t ≡ next_param purpose count frames nodes pats t)
+NextAt purpose count frames nodes (t ∷ ts) s = may_follow (sort_of t.kind) ≡ true → (pats : PatReader) × (moved s t ≡ next_param purpose count frames nodes pats t)
 
 -- one more simple pattern may come
 abbrev pub Many : Purpose → Type 0
@@ -80,7 +80,7 @@ quiet_none laws t {s = s} reached d h = decide (pat_move s t) refl where
 
 -- after a simple pattern that is whole
 pub param_next : (laws : PatLaws) (purpose : Purpose) (before : ℕ) (frames : List Frame) (nodes : List ExprNode) (r : PatReader) {pat_nodes : List PatNode} (ts : List Token) → Reached apat_reader r → pat_done r ≡ Some pat_nodes → NextAt purpose (before + 1) frames (nodes ++ wrapped pat_nodes) ts (state (at frames (now.Param purpose before) nodes) r false)
-unfolding move
+unfolding moved
 param_next laws purpose before frames nodes r [] reached d = tt
 param_next laws purpose before frames nodes r (t ∷ ts) reached d = λ h. (
   r,
@@ -89,10 +89,10 @@ param_next laws purpose before frames nodes r (t ∷ ts) reached d = λ h. (
 )
 
 -- a simple pattern begins and ends
-pub one_param : {Q : State → List Token → Type 0} {p : Pat} {ts us : List Token} → (purpose : Purpose) (count : ℕ) (frames : List Frame) (nodes : List ExprNode) (s : State) (laws : PatLaws) → Closed Q → ReadsApat ts p us → ((t : Token) (r : PatReader) (vs : List Token) → ts ≡ t ∷ vs → may_follow (sort_of t.kind) ≡ true → pat_move apat_reader.start t ≡ Some r → move s t ≡ Some (state (at frames (now.Param purpose count) nodes) r false)) → ((r : State) → NextAt purpose (count + 1) frames (put_pat p nodes) us r → Q r us) → Q s ts
+pub one_param : {Q : State → List Token → Type 0} {p : Pat} {ts us : List Token} → (purpose : Purpose) (count : ℕ) (frames : List Frame) (nodes : List ExprNode) (s : State) (laws : PatLaws) → Closed Q → ReadsApat ts p us → ((t : Token) (r : PatReader) (vs : List Token) → ts ≡ t ∷ vs → may_follow (sort_of t.kind) ≡ true → pat_move apat_reader.start t ≡ Some r → moved s t ≡ Some (state (at frames (now.Param purpose count) nodes) r false)) → ((r : State) → NextAt purpose (count + 1) frames (put_pat p nodes) us r → Q r us) → Q s ts
 one_param {Q = Q} {p = p} {us = us} purpose count frames nodes s laws k a begins rest =
     let whole = laws.apat.complete (record { pat = p; reads = a; is = refl }) in run whole refl begins where
-      run : {x : PatReader} {vs : List Token} → Runs apat_reader x vs (pat_nodes p) us → x ≡ apat_reader.start → ((t : Token) (r : PatReader) (ws : List Token) → vs ≡ t ∷ ws → may_follow (sort_of t.kind) ≡ true → pat_move apat_reader.start t ≡ Some r → move s t ≡ Some (state (at frames (now.Param purpose count) nodes) r false)) → Q s vs
+      run : {x : PatReader} {vs : List Token} → Runs apat_reader x vs (pat_nodes p) us → x ≡ apat_reader.start → ((t : Token) (r : PatReader) (ws : List Token) → vs ≡ t ∷ ws → may_follow (sort_of t.kind) ≡ true → pat_move apat_reader.start t ≡ Some r → moved s t ≡ Some (state (at frames (now.Param purpose count) nodes) r false)) → Q s vs
       run (stop {s = x} h) e b = absurd (not_start (ap pat_done (sym e) ∙ h))
       run (take {s = x} {r = r} {t = t} {ts = ws} h runs) e b =
           let g : pat_move apat_reader.start t ≡ Some r = ap (λ y. pat_move y t) (sym e) ∙ h in
@@ -105,7 +105,7 @@ params laws k no_apat purpose many count frames nodes s starts rest = rest s sta
 params laws k (apat_more {p = p} a more) purpose many count frames nodes s starts rest =
     one_param purpose count frames nodes s laws k a (begins starts)
     (λ r next. params laws k more purpose many (count + 1) frames (put_pat p nodes) r next rest) where
-      begins : {vs : List Token} → NextAt purpose count frames nodes vs s → (t : Token) (r : PatReader) (ws : List Token) → vs ≡ t ∷ ws → may_follow (sort_of t.kind) ≡ true → pat_move apat_reader.start t ≡ Some r → move s t ≡ Some (state (at frames (now.Param purpose count) nodes) r false)
+      begins : {vs : List Token} → NextAt purpose count frames nodes vs s → (t : Token) (r : PatReader) (ws : List Token) → vs ≡ t ∷ ws → may_follow (sort_of t.kind) ≡ true → pat_move apat_reader.start t ≡ Some r → moved s t ≡ Some (state (at frames (now.Param purpose count) nodes) r false)
       begins {vs = vs} start t r ws e follow h =
           let here : NextAt purpose count frames nodes (t ∷ ws) s = subst (λ v. NextAt purpose count frames nodes v s) e start in
           let p = here follow in

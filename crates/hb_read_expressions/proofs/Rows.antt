@@ -40,7 +40,7 @@ use Rattle.hb_read_expressions.specs.declared.state.State.{State}
 use Rattle.hb_read_expressions.specs.States.{at, state, one_more}
 use Rattle.hb_read_expressions.specs.Outside.{move_core}
 use Rattle.hb_read_expressions.specs.Inside.{move_bind_start, move_row_var, move_row_open, move_row_left, in_pattern, if_done, next_param, end_params, with_pats, row_infix}
-use Rattle.hb_read_expressions.specs.Moves.{move}
+use Rattle.hb_read_expressions.specs.Moves.{moved}
 use Rattle.hb_read_expressions.proofs.Sorting.{Means, means, sort_var}
 use Rattle.hb_read_expressions.proofs.PatStops.{other_stops, start_equals, not_start}
 use Rattle.hb_read_expressions.proofs.Steps.{Closed, Takes, All, Alone, Plain, go, Applied, applied, posted_plain, posted_moves}
@@ -48,7 +48,7 @@ use Rattle.hb_read_expressions.proofs.Params.{PatLaws, none_some, runs_in, NextA
 
 -- a token where no pattern is read beside
 pub go_false : {Q : State → List Token → Type 0} {now : Now} {frames : List Frame} {nodes : List ExprNode} {core : Core} {t : Token} {ts : List Token} → Closed Q → Plain now → (x : Sort) → sort_of t.kind ≡ x → move_core now frames nodes t.place x ≡ Some core → Alone Q core ts → Alone Q (at frames now nodes) (t ∷ ts)
-unfolding move
+unfolding moved
 go_false {now = now} {frames = frames} {nodes = nodes} {t = t} k plain x h moves rest pats =
     k.taken (plain frames nodes pats t ∙ ap (λ y. with_pats pats (move_core now frames nodes t.place y)) h ∙ ap (with_pats pats) moves) (rest pats)
 
@@ -61,8 +61,8 @@ infix_goes k (named {t = t} {name = name} h m g) (applied whole) frames rest =
     (go k (λ frames nodes pats t. refl) (sort.Variable name) (sort_var m) refl refl
     (go k (λ frames nodes pats t. refl) sort.Backquote (ap sort_of g) refl refl rest))
 
-pub start_param : (purpose : Purpose) (n : ℕ) (frames : List Frame) (nodes : List ExprNode) (pats r : PatReader) (t : Token) → pat_move apat_reader.start t ≡ Some r → move (state (at frames (now.ParamStart purpose n) nodes) pats false) t ≡ Some (state (at frames (now.Param purpose n) nodes) r false)
-unfolding move
+pub start_param : (purpose : Purpose) (n : ℕ) (frames : List Frame) (nodes : List ExprNode) (pats r : PatReader) (t : Token) → pat_move apat_reader.start t ≡ Some r → moved (state (at frames (now.ParamStart purpose n) nodes) pats false) t ≡ Some (state (at frames (now.Param purpose n) nodes) r false)
+unfolding moved
 start_param purpose n frames nodes pats r t h = ap (λ o. in_pattern (at frames (now.Param purpose n) nodes) o None) h
 
 -- after the left side of an equation, at its `=`
@@ -86,7 +86,7 @@ right_equals name place count before frames nodes (t ∷ ts) s next = λ h.
 
 -- after a name that an equation begins with
 pub var_next : (before : ℕ) (place : Place) (name : Name) (frames : List Frame) (nodes : List ExprNode) (pats : PatReader) (ts : List Token) → NextAt (ForRow name place before) 0 frames nodes ts (state (at frames (now.RowVar before place name) nodes) pats false)
-unfolding move
+unfolding moved
 var_next before place name frames nodes pats [] = tt
 var_next before place name frames nodes pats (t ∷ ts) = λ h. (pats, by_sort (sort_of t.kind) h) where
   by_sort : (x : Sort) → may_follow x ≡ true → move_row_var before place name frames nodes pats t x ≡ next_param (ForRow name place before) 0 frames nodes pats t
@@ -95,12 +95,12 @@ var_next before place name frames nodes pats (t ∷ ts) = λ h. (pats, by_sort (
   by_sort x h = refl
 
 pub name_next : (before : ℕ) (place : Place) (name : Name) (frames : List Frame) (nodes : List ExprNode) (pats : PatReader) (ts : List Token) → NextAt (ForRow name place before) 0 frames nodes ts (state (at frames (now.RowName before place name) nodes) pats false)
-unfolding move
+unfolding moved
 name_next before place name frames nodes pats [] = tt
 name_next before place name frames nodes pats (t ∷ ts) = λ h. (pats, refl)
 
-bind_var : {name : Name} {t : Token} → IsVar name t → (before : ℕ) (frames : List Frame) (nodes : List ExprNode) (pats : PatReader) → move (state (at frames (now.BindStart before) nodes) pats false) t ≡ Some (state (at frames (now.RowVar before t.place name) nodes) pats false)
-unfolding move
+bind_var : {name : Name} {t : Token} → IsVar name t → (before : ℕ) (frames : List Frame) (nodes : List ExprNode) (pats : PatReader) → moved (state (at frames (now.BindStart before) nodes) pats false) t ≡ Some (state (at frames (now.RowVar before t.place name) nodes) pats false)
+unfolding moved
 bind_var {t = t} h before frames nodes pats = ap (move_bind_start before frames nodes pats t) (sort_var h)
 
 -- the reader of patterns after `(`
@@ -111,13 +111,13 @@ pub start_open : (t : Token) → IsOpen t → pat_move apat_reader.start t ≡ S
 unfolding pat_move
 start_open t h = ap (λ k. move_last pat_last.Wanted [] head.Single [] t.place (pat_sort_of k)) h
 
-bind_open : (t : Token) → IsOpen t → (before : ℕ) (frames : List Frame) (nodes : List ExprNode) (pats : PatReader) → move (state (at frames (now.BindStart before) nodes) pats false) t ≡ Some (state (at frames (now.RowOpen before t.place) nodes) (in_bracket t.place) false)
-unfolding move
+bind_open : (t : Token) → IsOpen t → (before : ℕ) (frames : List Frame) (nodes : List ExprNode) (pats : PatReader) → moved (state (at frames (now.BindStart before) nodes) pats false) t ≡ Some (state (at frames (now.RowOpen before t.place) nodes) (in_bracket t.place) false)
+unfolding moved
 bind_open t h before frames nodes pats =
     ap (λ k. move_bind_start before frames nodes pats t (sort_of k)) h ∙ ap (λ o. in_pattern (at frames (now.RowOpen before t.place) nodes) o None) (start_open t h)
 
-pub open_op : (t : Token) {name : Name} → IsOp name t → (before : ℕ) (place : Place) (frames : List Frame) (nodes : List ExprNode) (pats : PatReader) → move (state (at frames (now.RowOpen before place) nodes) pats false) t ≡ Some (state (at frames (now.RowOp before place name) nodes) pats false)
-unfolding move
+pub open_op : (t : Token) {name : Name} → IsOp name t → (before : ℕ) (place : Place) (frames : List Frame) (nodes : List ExprNode) (pats : PatReader) → moved (state (at frames (now.RowOpen before place) nodes) pats false) t ≡ Some (state (at frames (now.RowOp before place name) nodes) pats false)
+unfolding moved
 open_op t h before place frames nodes pats = ap (λ k. move_row_open before place frames nodes pats t (sort_of k)) h
 
 -- the name that an equation defines, and its parameters
@@ -156,7 +156,7 @@ apat_begins (patterns.no_fields h g c) = is_left (ap (λ k. begins_left (sort_of
 apat_begins (patterns.fields h g fs c) = is_left (ap (λ k. begins_left (sort_of k)) h)
 
 -- an operator after the left pattern, and the right pattern
-pub right_side : {Q : State → List Token → Type 0} {ts us vs : List Token} {place : Place} {name : Name} {q : Pat} → PatLaws → Closed Q → (row : Place) (before : ℕ) (frames : List Frame) (nodes : List ExprNode) (s : State) → ReadsInfix ts place name us → ReadsApat us q vs → ((x : Sort) (core : Core) (t : Token) (ws : List Token) → ts ≡ t ∷ ws → sort_of t.kind ≡ x → pat_sort_of t.kind ≡ pat_sort.Other → row_infix before row frames nodes x ≡ Some core → (pats : PatReader) × (move s t ≡ Some (state core pats false))) → ((r : State) → EqualsNext (at (frame.Row name row 2 before ∷ frames) now.Want (put_pat q nodes)) vs r → Q r vs) → Q s ts
+pub right_side : {Q : State → List Token → Type 0} {ts us vs : List Token} {place : Place} {name : Name} {q : Pat} → PatLaws → Closed Q → (row : Place) (before : ℕ) (frames : List Frame) (nodes : List ExprNode) (s : State) → ReadsInfix ts place name us → ReadsApat us q vs → ((x : Sort) (core : Core) (t : Token) (ws : List Token) → ts ≡ t ∷ ws → sort_of t.kind ≡ x → pat_sort_of t.kind ≡ pat_sort.Other → row_infix before row frames nodes x ≡ Some core → (pats : PatReader) × (moved s t ≡ Some (state core pats false))) → ((r : State) → EqualsNext (at (frame.Row name row 2 before ∷ frames) now.Want (put_pat q nodes)) vs r → Q r vs) → Q s ts
 right_side {vs = vs} {q = right} laws k row before frames nodes s (op {t = t} {us = us} {name = name} h) q moves rest =
     let m = moves (sort.Operator name) (at frames (now.ParamStart (ForRight name row before) 1) nodes) t us refl (ap sort_of h) (ap pat_sort_of h) refl in
     k.taken m.1 (one_param (ForRight name row before) 1 frames nodes (state (at frames (now.ParamStart (ForRight name row before) 1) nodes) m.0 false) laws k q
@@ -175,12 +175,12 @@ var_infix before place name frames nodes pats t (sort.Operator o) core h = ap (w
 var_infix before place name frames nodes pats t sort.Backquote core h = ap (with_pats pats) h
 var_infix before place name frames nodes pats t x core h = absurd (cc)
 
-var_moves : (before : ℕ) (place : Place) (name : Name) (frames : List Frame) (nodes : List ExprNode) (pats : PatReader) (t : Token) (x : Sort) (core : Core) → sort_of t.kind ≡ x → row_infix before place frames (put nodes (node.Pat (pat_node.Var place name))) x ≡ Some core → move (state (at frames (now.RowVar before place name) nodes) pats false) t ≡ Some (state core pats false)
-unfolding move
+var_moves : (before : ℕ) (place : Place) (name : Name) (frames : List Frame) (nodes : List ExprNode) (pats : PatReader) (t : Token) (x : Sort) (core : Core) → sort_of t.kind ≡ x → row_infix before place frames (put nodes (node.Pat (pat_node.Var place name))) x ≡ Some core → moved (state (at frames (now.RowVar before place name) nodes) pats false) t ≡ Some (state core pats false)
+unfolding moved
 var_moves before place name frames nodes pats t x core e h = ap (move_row_var before place name frames nodes pats t) e ∙ var_infix before place name frames nodes pats t x core h
 
-bind_left : (before : ℕ) (frames : List Frame) (nodes : List ExprNode) (pats r : PatReader) (t : Token) → begins_left (sort_of t.kind) ≡ true → pat_move apat_reader.start t ≡ Some r → move (state (at frames (now.BindStart before) nodes) pats false) t ≡ Some (state (at frames (now.RowLeft before t.place) nodes) r false)
-unfolding move
+bind_left : (before : ℕ) (frames : List Frame) (nodes : List ExprNode) (pats r : PatReader) (t : Token) → begins_left (sort_of t.kind) ≡ true → pat_move apat_reader.start t ≡ Some r → moved (state (at frames (now.BindStart before) nodes) pats false) t ≡ Some (state (at frames (now.RowLeft before t.place) nodes) r false)
+unfolding moved
 bind_left before frames nodes pats r t h g = by_sort (sort_of t.kind) h ∙ ap (λ o. in_pattern (at frames (now.RowLeft before t.place) nodes) o None) g where
   by_sort : (x : Sort) → begins_left x ≡ true → move_bind_start before frames nodes pats t x ≡ in_pattern (at frames (now.RowLeft before t.place) nodes) (apat_reader.move apat_reader.start t) None
   by_sort (sort.Number k) h = refl
@@ -189,20 +189,20 @@ bind_left before frames nodes pats r t h g = by_sort (sort_of t.kind) h ∙ ap (
   by_sort sort.Other h = refl
   by_sort x h = absurd (cc)
 
-pub left_inside : (before : ℕ) (place : Place) (frames : List Frame) (nodes : List ExprNode) (pats r : PatReader) (t : Token) → pat_move pats t ≡ Some r → move (state (at frames (now.RowLeft before place) nodes) pats false) t ≡ Some (state (at frames (now.RowLeft before place) nodes) r false)
-unfolding move
+pub left_inside : (before : ℕ) (place : Place) (frames : List Frame) (nodes : List ExprNode) (pats r : PatReader) (t : Token) → pat_move pats t ≡ Some r → moved (state (at frames (now.RowLeft before place) nodes) pats false) t ≡ Some (state (at frames (now.RowLeft before place) nodes) r false)
+unfolding moved
 left_inside before place frames nodes pats r t h = ap (λ o. in_pattern (at frames (now.RowLeft before place) nodes) o (if_done (pat_done pats) (λ pat_nodes. with_pats pats (row_infix before place frames (nodes ++ wrapped pat_nodes) (sort_of t.kind))))) h
 
-pub left_moves : (before : ℕ) (place : Place) (frames : List Frame) (nodes : List ExprNode) (r : PatReader) {pat_nodes : List PatNode} (t : Token) (x : Sort) (core : Core) → pat_done r ≡ Some pat_nodes → sort_of t.kind ≡ x → pat_sort_of t.kind ≡ pat_sort.Other → row_infix before place frames (nodes ++ wrapped pat_nodes) x ≡ Some core → move (state (at frames (now.RowLeft before place) nodes) r false) t ≡ Some (state core r false)
-unfolding move
+pub left_moves : (before : ℕ) (place : Place) (frames : List Frame) (nodes : List ExprNode) (r : PatReader) {pat_nodes : List PatNode} (t : Token) (x : Sort) (core : Core) → pat_done r ≡ Some pat_nodes → sort_of t.kind ≡ x → pat_sort_of t.kind ≡ pat_sort.Other → row_infix before place frames (nodes ++ wrapped pat_nodes) x ≡ Some core → moved (state (at frames (now.RowLeft before place) nodes) r false) t ≡ Some (state core r false)
+unfolding moved
 left_moves before place frames nodes r {pat_nodes = pat_nodes} t x core d e other h =
     ap (λ o. in_pattern (at frames (now.RowLeft before place) nodes) o (if_done (pat_done r) (λ pat_nodes. with_pats r (row_infix before place frames (nodes ++ wrapped pat_nodes) (sort_of t.kind))))) (other_stops r t other)
     ∙ ap (λ o. if_done o (λ pat_nodes. with_pats r (row_infix before place frames (nodes ++ wrapped pat_nodes) (sort_of t.kind)))) d
     ∙ ap (λ y. with_pats r (row_infix before place frames (nodes ++ wrapped pat_nodes) y)) e
     ∙ ap (with_pats r) h
 
-open_inside : (before : ℕ) (place : Place) (frames : List Frame) (nodes : List ExprNode) (pats r : PatReader) (t : Token) → pat_move pats t ≡ Some r → move (state (at frames (now.RowOpen before place) nodes) pats false) t ≡ Some (state (at frames (now.RowLeft before place) nodes) r false)
-unfolding move
+open_inside : (before : ℕ) (place : Place) (frames : List Frame) (nodes : List ExprNode) (pats r : PatReader) (t : Token) → pat_move pats t ≡ Some r → moved (state (at frames (now.RowOpen before place) nodes) pats false) t ≡ Some (state (at frames (now.RowLeft before place) nodes) r false)
+unfolding moved
 open_inside before place frames nodes pats r t h = by_sort (sort_of t.kind) (means t) ∙ ap (λ o. in_pattern (at frames (now.RowLeft before place) nodes) o (if_done (pat_done pats) (λ pat_nodes. with_pats pats (row_infix before place frames (nodes ++ wrapped pat_nodes) (sort_of t.kind))))) h where
   by_sort : (x : Sort) → Means x t → move_row_open before place frames nodes pats t x ≡ move_row_left before place frames nodes pats t
   by_sort (sort.Operator name) m = absurd (none_some (other_stops pats t (ap pat_sort_of m)) h)

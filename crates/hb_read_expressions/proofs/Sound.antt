@@ -41,7 +41,7 @@ use Rattle.hb_read_expressions.specs.Ends.{row_next}
 use Rattle.hb_read_expressions.specs.Outside.{move_core}
 use Rattle.hb_read_expressions.specs.Inside.{with_pats, in_pattern as going, if_done, end_params, next_param, move_param, row_infix, move_bind_start, move_row_var, move_row_left, move_row_open, alt_arrow, end_case, move_alt_start, move_alt_pat, stmt_arrow, move_stmt_pat}
 use Rattle.hb_read_expressions.specs.Statements.{move_both, both, cut, pattern_alone, arrow_at, end_do, move_stmt_start}
-use Rattle.hb_read_expressions.specs.Moves.{move, move_state, move_alone}
+use Rattle.hb_read_expressions.specs.Moves.{moved, move_state, move_alone}
 use Rattle.hb_read_expressions.specs.Sorts.{sort_of}
 use Rattle.hb_read_expressions.proofs.Params.{PatLaws}
 use Rattle.hb_read_expressions.proofs.Heads.{head_cut, at_head as head_begins, core_keeps, pat_has, InHeadAfter}
@@ -277,6 +277,6 @@ state_leads laws root top false core pats t ts s b = alone_leads laws root top c
 state_leads laws root top true core pats t ts s b = both_leads laws root top core pats t (sort_of t.kind) ts (means t) s b
 
 -- a token that is taken leads from what is true to what is true
-pub step : (laws : PatLaws) (root : Root) (top : List Token) {s r : State} {t : Token} {ts : List Token} → move s t ≡ Some r → Stands root top s (t ∷ ts) → Stands root top r ts
-unfolding move
+pub step : (laws : PatLaws) (root : Root) (top : List Token) {s r : State} {t : Token} {ts : List Token} → moved s t ≡ Some r → Stands root top s (t ∷ ts) → Stands root top r ts
+unfolding moved
 step laws root top {s = s} {r = r} {t = t} {ts = ts} h stands = subst (λ o. LeadsState root top o ts) h (state_leads laws root top s.beside s.core s.pats t ts stands.read stands.side)

@@ -30,11 +30,11 @@ use Rattle.hb_read_expressions.specs.Ends.{close, end_operand, Ended}
 use Rattle.hb_read_expressions.specs.Outside.{move_core, begin_post, begin_operand, after_post}
 use Rattle.hb_read_expressions.specs.Inside.{with_pats}
 use Rattle.hb_read_expressions.specs.Statements.{move_both, both}
-use Rattle.hb_read_expressions.specs.Moves.{move, move_alone, ended_at}
+use Rattle.hb_read_expressions.specs.Moves.{moved, move_alone, ended_at}
 
 -- what is said of a state and the tokens to come, and holds before a token that it takes
 pub record Closed (Q : State → List Token → Type 0) : Type 0 where
-  pub taken : {s r : State} {t : Token} {ts : List Token} → move s t ≡ Some r → Q r ts → Q s (t ∷ ts)
+  pub taken : {s r : State} {t : Token} {ts : List Token} → moved s t ≡ Some r → Q r ts → Q s (t ∷ ts)
 
 -- however the reader of patterns stands
 abbrev pub All : (State → List Token → Type 0) → Core → List Token → Type 0
@@ -45,7 +45,7 @@ pub record Takes (s : State) (t : Token) (core : Core) : Type 0 where
   pub pats : PatReader
   pub beside : Bool
   pub alone : pat_sort_of t.kind ≡ pat_sort.Other → beside ≡ false
-  pub moves : move s t ≡ Some (state core pats beside)
+  pub moves : moved s t ≡ Some (state core pats beside)
 
 pub then_all : {Q : State → List Token → Type 0} {s : State} {t : Token} {core : Core} {ts : List Token} → Closed Q → Takes s t core → All Q core ts → Q s (t ∷ ts)
 then_all k takes rest = k.taken takes.moves (rest takes.pats takes.beside)
@@ -76,13 +76,13 @@ abbrev pub Plain : Now → Type 0
 Plain now = (frames : List Frame) (nodes : List ExprNode) (pats : PatReader) (t : Token) → move_alone now frames nodes pats t ≡ with_pats pats (move_core now frames nodes t.place (sort_of t.kind))
 
 both_step : (core next : Core) (pats : PatReader) (t : Token) (x : Sort) → sort_of t.kind ≡ x → is_arrow x ≡ false → move_core core.last core.frames core.nodes t.place x ≡ Some next → Takes (state core pats true) t next
-unfolding move
+unfolding moved
 both_step core next pats t x h arrow moves =
     let p = both_takes core next pats (pat_reader.move pats t) in
     record { pats = p.0; beside = p.1; alone = λ o. p.3 (other_stops pats t o); moves = ap (move_both core pats t) h ∙ both_is core pats t x arrow ∙ ap (λ c. both core c pats (pat_reader.move pats t)) moves ∙ p.2 }
 
 alone_step : (core next : Core) (pats : PatReader) (t : Token) (x : Sort) → Plain core.last → sort_of t.kind ≡ x → move_core core.last core.frames core.nodes t.place x ≡ Some next → Takes (state core pats false) t next
-unfolding move
+unfolding moved
 alone_step core next pats t x plain h moves =
     record { pats = pats; beside = false; alone = λ o. refl; moves = plain core.frames core.nodes pats t ∙ ap (λ y. with_pats pats (move_core core.last core.frames core.nodes t.place y)) h ∙ ap (with_pats pats) moves }
 

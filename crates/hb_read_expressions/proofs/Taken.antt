@@ -17,14 +17,14 @@ use Rattle.hb_read_expressions.specs.Nodes.{put_expr, put_rows, put_binds, binds
 use Rattle.hb_read_expressions.specs.declared.state.State.{State}
 use Rattle.hb_read_expressions.specs.States.{at, state}
 use Rattle.hb_read_expressions.specs.Ends.{Ended}
-use Rattle.hb_read_expressions.specs.Moves.{move, done, done_now, end_nodes, ended_at, outermost_end, expr_start, equation_start, binds_start, expr_reader, equation_reader, binds_reader}
+use Rattle.hb_read_expressions.specs.Moves.{moved, done, done_now, end_nodes, ended_at, outermost_end, expr_start, equation_start, binds_start, expr_reader, equation_reader, binds_reader}
 use Rattle.hb_read_expressions.proofs.Steps.{Closed, Ends, want_starts}
 use Rattle.hb_read_expressions.proofs.Params.{PatLaws}
 use Rattle.hb_read_expressions.proofs.Complete.{expr, equation, block}
 
 -- the tokens to come make a run to this end
 abbrev pub RunsTo : (start : State) → List ExprNode → List Token → State → List Token → Type 0
-RunsTo start nodes us s ts = Runs (record { start = start; move = move; done = done }) s ts nodes us
+RunsTo start nodes us s ts = Runs (record { start = start; move = moved; done = done }) s ts nodes us
 
 pub runs_closed : (start : State) (nodes : List ExprNode) (us : List Token) → Closed (RunsTo start nodes us)
 runs_closed start nodes us = record { taken = λ h rest. take h rest }

@@ -20,7 +20,7 @@ use Rattle.hb_grammar.specs.Reading.Runs.{stop, take as taking}
 use Rattle.hb_read_expressions.specs.declared.state.State.{State}
 use Rattle.hb_read_expressions.specs.States.{end_post, begun_of}
 use Rattle.hb_read_expressions.specs.Ends.{end_operand, settle}
-use Rattle.hb_read_expressions.specs.Moves.{move, done, done_now, end_nodes, outermost_end, expr_start, equation_start, binds_start, expr_reader, equation_reader, binds_reader}
+use Rattle.hb_read_expressions.specs.Moves.{moved, done, done_now, end_nodes, outermost_end, expr_start, equation_start, binds_start, expr_reader, equation_reader, binds_reader}
 use Rattle.hb_read_expressions.proofs.Params.{PatLaws}
 use Rattle.hb_read_expressions.proofs.Closing.{settle_whole, last_expr, apply_last, post_applies, open_last}
 use Rattle.hb_read_expressions.proofs.Standing.{is_post, WholePost, whole_post, WholeExpr, whole_expr, is_con_name, in_row, Root, an_expr, an_equation, a_block, AtRoot, at_root, RowAtRoot, row_at_root, Below, RowWhole, row_whole, BlockWhole, block_whole, is_over, StandsAt, Stands}
@@ -80,7 +80,7 @@ unfolding done
 done_whole root top us s nodes stands h = now_whole root top us s.core.last s.core.frames s.core.nodes nodes s.pats stands.read h
 
 -- a run reads the whole
-pub runs_whole : (laws : PatLaws) (root : Root) (top : List Token) (start : State) {s : State} {ts us : List Token} {nodes : List ExprNode} → Runs (record { start = start; move = move; done = done }) s ts nodes us → Stands root top s ts → Whole top us root nodes
+pub runs_whole : (laws : PatLaws) (root : Root) (top : List Token) (start : State) {s : State} {ts us : List Token} {nodes : List ExprNode} → Runs (record { start = start; move = moved; done = done }) s ts nodes us → Stands root top s ts → Whole top us root nodes
 runs_whole laws root top start (stop {s = s} {ts = ts} {a = nodes} h) stands = done_whole root top ts s nodes stands h
 runs_whole laws root top start (taking h runs) stands = runs_whole laws root top start runs (step laws root top h stands)
 

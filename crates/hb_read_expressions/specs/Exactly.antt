@@ -11,7 +11,7 @@ use Rattle.hb_read_patterns.specs.declared.reader.PatReader.{PatReader}
 use Rattle.hb_read_expressions.specs.declared.node.ExprNode.{ExprNode}
 use Rattle.hb_read_expressions.specs.Nodes.{expr_nodes, put_rows, put_binds}
 use Rattle.hb_read_expressions.specs.declared.state.State.{State}
-use Rattle.hb_read_expressions.specs.Moves.{move, expr_reader, equation_reader, binds_reader}
+use Rattle.hb_read_expressions.specs.Moves.{moved, expr_reader, equation_reader, binds_reader}
 use Rattle.hb_read_expressions.specs.declared.sort.Sort.{Sort}
 use Rattle.hb_read_expressions.specs.declared.sort.Sort.TheVariants as sort
 use Rattle.hb_read_expressions.specs.Sorts.{sort_of}
@@ -61,4 +61,4 @@ goes_on x = false
 
 -- no other token is taken
 abbrev pub EndsBefore : State → Type 0
-EndsBefore s = (t : Token) → goes_on (sort_of t.kind) ≡ false → move s t ≡ None
+EndsBefore s = (t : Token) → goes_on (sort_of t.kind) ≡ false → moved s t ≡ None

@@ -7,3 +7,6 @@ pub mod Inside
 pub mod Statements
 pub mod Moves
 pub mod Exactly
+pub mod Taking
+pub mod Asking
+pub mod Settling

@@ -22,28 +22,32 @@ use Rattle.hb_read_expressions.specs.Outside.{move_core}
 use Rattle.hb_read_expressions.specs.Inside.{with_pats, in_pattern, next_param, move_param, move_bind_start, move_row_var, move_row_left, move_row_open, move_alt_start, move_alt_pat, move_stmt_pat}
 use Rattle.hb_read_expressions.specs.Statements.{move_both, move_stmt_start}
 
+-- a token in a pattern or in an expression, where no statement begins
+abbrev pub move_within : Now → List Frame → List ExprNode → PatReader → Token → Option State
+move_within (now.ParamStart purpose patterns) frames nodes pats t = in_pattern (at frames (now.Param purpose patterns) nodes) (apat_reader.move apat_reader.start t) None
+move_within (now.Param purpose before) frames nodes pats t = move_param purpose before frames nodes pats t
+move_within (now.BindStart before) frames nodes pats t = move_bind_start before frames nodes pats t (sort_of t.kind)
+move_within (now.RowVar before place name) frames nodes pats t = move_row_var before place name frames nodes pats t (sort_of t.kind)
+move_within (now.RowOpen before place) frames nodes pats t = move_row_open before place frames nodes pats t (sort_of t.kind)
+move_within (now.RowName before place name) frames nodes pats t = next_param (ForRow name place before) 0 frames nodes pats t
+move_within (now.RowLeft before place) frames nodes pats t = move_row_left before place frames nodes pats t
+move_within (now.AltStart begun place before) frames nodes pats t = move_alt_start begun place before frames nodes pats t (sort_of t.kind)
+move_within (now.AltPat begun place before) frames nodes pats t = move_alt_pat begun place before frames nodes pats t
+move_within (now.StmtPat begun place before) frames nodes pats t = move_stmt_pat begun place before frames nodes pats t
+move_within now frames nodes pats t = with_pats pats (move_core now frames nodes t.place (sort_of t.kind))
+
 -- a token where one reader goes on alone
 abbrev pub move_alone : Now → List Frame → List ExprNode → PatReader → Token → Option State
-move_alone (now.ParamStart purpose patterns) frames nodes pats t = in_pattern (at frames (now.Param purpose patterns) nodes) (apat_reader.move apat_reader.start t) None
-move_alone (now.Param purpose before) frames nodes pats t = move_param purpose before frames nodes pats t
-move_alone (now.BindStart before) frames nodes pats t = move_bind_start before frames nodes pats t (sort_of t.kind)
-move_alone (now.RowVar before place name) frames nodes pats t = move_row_var before place name frames nodes pats t (sort_of t.kind)
-move_alone (now.RowOpen before place) frames nodes pats t = move_row_open before place frames nodes pats t (sort_of t.kind)
-move_alone (now.RowName before place name) frames nodes pats t = next_param (ForRow name place before) 0 frames nodes pats t
-move_alone (now.RowLeft before place) frames nodes pats t = move_row_left before place frames nodes pats t
-move_alone (now.AltStart begun place before) frames nodes pats t = move_alt_start begun place before frames nodes pats t (sort_of t.kind)
-move_alone (now.AltPat begun place before) frames nodes pats t = move_alt_pat begun place before frames nodes pats t
 move_alone (now.StmtStart begun place before may_end) frames nodes pats t = move_stmt_start begun place before may_end frames nodes pats t (sort_of t.kind)
-move_alone (now.StmtPat begun place before) frames nodes pats t = move_stmt_pat begun place before frames nodes pats t
-move_alone now frames nodes pats t = with_pats pats (move_core now frames nodes t.place (sort_of t.kind))
+move_alone now frames nodes pats t = move_within now frames nodes pats t
 
 abbrev pub move_state : Bool → Core → PatReader → Token → Option State
 move_state false core pats t = move_alone core.last core.frames core.nodes pats t
 move_state true core pats t = move_both core pats t (sort_of t.kind)
 
 -- what a token makes of a reader, or none where it cannot stand
-unfoldable pub move : State → Token → Option State
-move s t = move_state s.beside s.core s.pats t
+unfoldable pub moved : State → Token → Option State
+moved s t = move_state s.beside s.core s.pats t
 
 -- an expression is whole here, if it ends here
 abbrev pub ended_at : Now → List Frame → List ExprNode → Option Ended
@@ -89,10 +93,10 @@ binds_start pats = state (at (frame.Block ∷ []) now.BindsBrace []) pats false
 -- the readers of `expr`, of `equation` and of `block(equation)`: one machine with three starts; where the reader of patterns
 -- stands at first does not matter
 abbrev pub expr_reader : PatReader → Reader State (List ExprNode)
-expr_reader pats = record { start = expr_start pats; move = move; done = done }
+expr_reader pats = record { start = expr_start pats; move = moved; done = done }
 
 abbrev pub equation_reader : PatReader → Reader State (List ExprNode)
-equation_reader pats = record { start = equation_start pats; move = move; done = done }
+equation_reader pats = record { start = equation_start pats; move = moved; done = done }
 
 abbrev pub binds_reader : PatReader → Reader State (List ExprNode)
-binds_reader pats = record { start = binds_start pats; move = move; done = done }
+binds_reader pats = record { start = binds_start pats; move = moved; done = done }

@@ -140,6 +140,19 @@ abbrev pub move_do_brace : Begun → Place → List Frame → List ExprNode → 
 move_do_brace begun place frames nodes sort.OpenBrace = Some (at frames (now.StmtStart begun place 0 false) nodes)
 move_do_brace begun place frames nodes sort = None
 
+-- a token of a block, or after one
+abbrev pub move_block : Now → List Frame → List ExprNode → Sort → Option Core
+move_block (now.Whole begun stands) frames nodes sort = close (end_operand frames begun stands nodes) sort
+move_block now.BindsBrace frames nodes sort = move_binds_brace frames nodes sort
+move_block (now.RowOp before row_place name) frames nodes sort = move_row_op before row_place name frames nodes sort
+move_block (now.RowQuote before row_place) frames nodes sort = move_row_quote before row_place frames nodes sort
+move_block (now.RowQuoted before row_place name) frames nodes sort = move_row_quoted before row_place name frames nodes sort
+move_block (now.RowEnd binds) frames nodes sort = row_next frames binds nodes sort
+move_block (now.LetIn begun let_place binds) frames nodes sort = move_let_in begun let_place binds frames nodes sort
+move_block (now.CaseBrace begun case_place) frames nodes sort = move_case_brace begun case_place frames nodes sort
+move_block (now.DoBrace begun do_place) frames nodes sort = move_do_brace begun do_place frames nodes sort
+move_block now frames nodes sort = None
+
 -- a token outside patterns
 abbrev pub move_core : Now → List Frame → List ExprNode → Place → Sort → Option Core
 move_core now.Want frames nodes place sort = begin frames nodes place sort
@@ -156,13 +169,4 @@ move_core (now.FirstField spot first target) frames nodes place sort = move_firs
 move_core (now.NextField spot first target before) frames nodes place sort = move_field spot first target before frames nodes place sort
 move_core (now.FieldName spot first target before field_place field) frames nodes place sort =
     move_field_name spot first target before field_place field frames nodes sort
-move_core (now.Whole begun stands) frames nodes place sort = close (end_operand frames begun stands nodes) sort
-move_core now.BindsBrace frames nodes place sort = move_binds_brace frames nodes sort
-move_core (now.RowOp before row_place name) frames nodes place sort = move_row_op before row_place name frames nodes sort
-move_core (now.RowQuote before row_place) frames nodes place sort = move_row_quote before row_place frames nodes sort
-move_core (now.RowQuoted before row_place name) frames nodes place sort = move_row_quoted before row_place name frames nodes sort
-move_core (now.RowEnd binds) frames nodes place sort = row_next frames binds nodes sort
-move_core (now.LetIn begun let_place binds) frames nodes place sort = move_let_in begun let_place binds frames nodes sort
-move_core (now.CaseBrace begun case_place) frames nodes place sort = move_case_brace begun case_place frames nodes sort
-move_core (now.DoBrace begun do_place) frames nodes place sort = move_do_brace begun do_place frames nodes sort
-move_core now frames nodes place sort = None
+move_core now frames nodes place sort = move_block now frames nodes sort

@@ -10,6 +10,7 @@ use Rattle.hb_read_expressions.specs.declared.sort.Sort.{Sort}
 use Rattle.hb_read_expressions.specs.declared.sort.Sort.TheVariants as sort
 use Rattle.hb_read_expressions.specs.declared.frame.Begun.{Begun}
 use Rattle.hb_read_expressions.specs.declared.frame.Frame.{Frame}
+use Rattle.hb_read_expressions.specs.declared.ends.StatementHead.{StatementHead}
 use Rattle.hb_read_expressions.specs.declared.frame.Frame.TheVariants as frame
 use Rattle.hb_read_expressions.specs.declared.now.Now.{Now}
 use Rattle.hb_read_expressions.specs.declared.now.Now.TheVariants as now
@@ -21,11 +22,19 @@ use Rattle.hb_read_expressions.specs.States.{at, state}
 use Rattle.hb_read_expressions.specs.Outside.{move_core}
 use Rattle.hb_read_expressions.specs.Inside.{with_pats, if_done, stmt_arrow}
 
+-- the statement whose expression is read in this frame
+abbrev pub head_of : Frame → Option StatementHead
+head_of (frame.Statement begun place before mark) = Some (record { begun = begun; place = place; before = before; mark = mark })
+head_of top = None
+
+abbrev pub cut_at : Option StatementHead → List Frame → List ExprNode → Option Core → Option Core
+cut_at None frames nodes outer = outer
+cut_at (Some head) frames nodes outer = Some (at frames (now.StmtPat head.begun head.place head.before) (take head.mark nodes))
+
 -- back to the head of the statement that is read
 abbrev pub cut : List Frame → List ExprNode → Option Core
 cut [] nodes = None
-cut (frame.Statement begun place before mark ∷ frames) nodes = Some (at frames (now.StmtPat begun place before) (take mark nodes))
-cut (top ∷ frames) nodes = cut frames nodes
+cut (top ∷ frames) nodes = cut_at (head_of top) frames nodes (cut frames nodes)
 
 -- the expression ends here, and the pattern goes on alone
 abbrev pub pattern_alone : PatReader → Option Core → Option State
@@ -40,14 +49,14 @@ both old None pats (Some next) = pattern_alone next (cut old.frames old.nodes)
 both old None pats None = None
 
 -- an arrow after a statement's pattern
+abbrev pub stmt_next : Now → List Frame → List ExprNode → Sort → Option Core
+stmt_next (now.StmtPat begun place before) frames nodes sort = stmt_arrow begun place before frames nodes sort
+stmt_next now frames nodes sort = None
+
 abbrev pub arrow_at : Option Core → PatReader → Token → Option State
 arrow_at None pats t = None
 arrow_at (Some core) pats t =
     if_done (pat_reader.done pats) (λ pat_nodes. with_pats pats (stmt_next core.last core.frames (core.nodes ++ wrapped pat_nodes) (sort_of t.kind)))
-  where
-    stmt_next : Now → List Frame → List ExprNode → Sort → Option Core
-    stmt_next (now.StmtPat begun place before) frames nodes sort = stmt_arrow begun place before frames nodes sort
-    stmt_next now frames nodes sort = None
 
 -- the two readers side by side
 abbrev pub move_both : Core → PatReader → Token → Sort → Option State

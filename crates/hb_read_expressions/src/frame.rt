@@ -1,4 +1,11 @@
-use hb_base::{Name, Place};
+ghost use Rattle.std.specs.Prelude.{◌≡◌, ◌+◌, IfOk};
+ghost use Rattle.hb_read_expressions.specs.States.{first_of, one_more, run_at, begun_of};
+ghost use Rattle.hb_read_expressions.specs.Ends.{right_end, target_node};
+ghost use Rattle.hb_read_expressions.specs.Statements.{head_of};
+
+use crate::ends::{RightEnd, StatementHead};
+use crate::node::ExprNode;
+use hb_base::{Memory, Name, Place};
 
 /// An expression in which an operand is read.
 #[derive(Clone, Copy)]
@@ -25,6 +32,18 @@ pub enum Target {
     Build(Name),
     /// The update of the expression before.
     Update,
+}
+
+/// A field in brackets whose name is read.
+#[derive(Clone, Copy)]
+pub struct OpenField {
+    /// Where the post begins.
+    pub first: Place,
+    pub target: Target,
+    /// The count of the fields before this one.
+    pub before: u32,
+    pub place: Place,
+    pub name: Name,
 }
 
 /// What is open around the expression that is read.
@@ -63,4 +82,112 @@ pub enum Frame {
     Statement(Begun, Place, u32, u32),
     /// `do { .. pat <-`, with the count of the statements before this one.
     Taken(Begun, Place, u32),
+}
+
+/// One more. At the end of its type the count is too long for memory.
+pub(crate) fn next_count(count: u32) -> Result<u32, Memory>
+    ensures { IfOk result (λ more. more ≡ count + 1) }
+{
+    match count.checked_add(1) {
+        Some(more) => Ok(more),
+        None => Err(Memory),
+    }
+}
+
+impl Begun {
+    /// Where the expression begins. Takes no memory.
+    pub fn first(self) -> Place
+        ensures { result ≡ first_of self }
+    {
+        match self {
+            Begun::First(place) | Begun::After(place, _) => place,
+        }
+    }
+
+    /// The same with one operator more.
+    pub fn more(self) -> Result<Begun, Memory>
+        ensures { IfOk result (λ begun. begun ≡ one_more self) }
+    {
+        match self {
+            Begun::First(place) => Ok(Begun::After(place, 1)),
+            Begun::After(place, operators) => {
+                let more = next_count(operators)?;
+                Ok(Begun::After(place, more))
+            }
+        }
+    }
+
+    /// Where the expression stands, whose last operand stands at this place. Takes no memory.
+    pub fn run_at(self, stands: Place) -> Place
+        ensures { result ≡ run_at self stands }
+    {
+        match self {
+            Begun::First(_) => stands,
+            Begun::After(place, _) => place,
+        }
+    }
+}
+
+impl Spot {
+    /// The expression in progress. Takes no memory.
+    pub fn begun(self) -> Begun
+        ensures { result ≡ begun_of self }
+    {
+        match self {
+            Spot::Head(begun) | Spot::Argument(begun) => begun,
+        }
+    }
+}
+
+impl Target {
+    /// The node of so many fields in brackets. Takes no memory.
+    pub fn node(self, place: Place, fields: u32) -> ExprNode
+        ensures { result ≡ target_node self place fields }
+    {
+        match self {
+            Target::Build(name) => ExprNode::Build(place, name, fields),
+            Target::Update => ExprNode::Update(place, fields),
+        }
+    }
+}
+
+impl Frame {
+    /// What a form that is open to the right puts out at its end. Takes no memory.
+    pub fn right_end(self) -> Option<RightEnd>
+        ensures { result ≡ right_end self }
+    {
+        match self {
+            Frame::Lambda(begun, place, patterns) => Some(RightEnd {
+                begun,
+                place,
+                node: ExprNode::Lambda(place, patterns),
+            }),
+            Frame::LetBody(begun, place, binds) => Some(RightEnd {
+                begun,
+                place,
+                node: ExprNode::Let(place, binds),
+            }),
+            Frame::Else(begun, place) => Some(RightEnd {
+                begun,
+                place,
+                node: ExprNode::If(place),
+            }),
+            _ => None,
+        }
+    }
+
+    /// The statement whose expression is read in this frame. Takes no memory.
+    pub fn statement_head(self) -> Option<StatementHead>
+        ensures { result ≡ head_of self }
+    {
+        match self {
+            Frame::Statement(begun, place, before, mark) => Some(StatementHead {
+                begun,
+                place,
+                before,
+                mark,
+            }),
+            _ => None,
+        }
+    }
 }

@@ -11,5 +11,6 @@ mod start;
 #[cfg(test)]
 mod tests;
 
+pub use frame::Due;
 pub use node::PatNode;
 pub use reader::PatReader;

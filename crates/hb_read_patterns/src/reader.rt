@@ -1,10 +1,11 @@
 ghost use Rattle.std.specs.Prelude.{◌≡◌, [], ◌∷◌, ◌++◌, None, OnOk, IfOk, IsTrue, is_some, option_map};
 ghost use Rattle.hb_read_patterns.specs.Heads.{put_node, named_head, named_node, named_nodes};
-ghost use Rattle.hb_read_patterns.specs.Moves.{at_last, in_bracket, begin, close, close_frame, go_on, done_last, put_start, put_due, move_field, move_chosen, move_opened, move_named, move_bracketed, done, pat_start, apat_start, apats_start};
+ghost use Rattle.hb_read_patterns.specs.Moves.{moved, at_last, in_bracket, begin, close, close_frame, go_on, done_last, put_start, put_due, move_field, move_chosen, move_opened, move_named, move_bracketed, done, pat_start, apat_start, apats_start};
 ghost use Rattle.hb_read_patterns.specs.Taking.{Went, Took};
 ghost use Rattle.hb_read_patterns.specs.Exactly.{PatReaderIsExact, ApatReaderIsExact, ApatsReaderIsExact, EndsBefore};
 ghost use Rattle.hb_read_patterns.specs.declared.frame.Frame.TheVariants.{First, Second, Given};
 ghost use Rattle.hb_read_patterns.specs.declared.head.Head.TheVariants.{Whole};
+ghost use Rattle.hb_read_patterns.specs.declared.reader.Last.TheVariants.{Wanted};
 ghost use Rattle.hb_read_patterns.specs.declared.node.PatNode.TheVariants as node;
 
 use crate::frame::{Due, Frame, OpenField};
@@ -362,6 +363,54 @@ impl PatReader {
         )
     }
 
+    fn restart(&mut self, head: Head)
+        ensures { self.new ≡ at_last [] head Wanted [] }
+    {
+        self.frames.clear();
+        self.nodes.truncate(0);
+        self.head = head;
+        self.last = Last::Wanted;
+    }
+
+    /// Goes back to the start of a reader of one pattern. Takes no memory.
+    pub fn restart_pat(&mut self)
+        ensures { self.new ≡ pat_start }
+    {
+        self.restart(Head::Whole);
+    }
+
+    /// Takes the token as a reader of one pattern takes its first. If it does not, nothing changes. After `Memory` the
+    /// reader is not used again.
+    #[tactic(auto, unfolding(crate::specs::Moves::moved))]
+    pub fn begin_pat(&mut self, token: &Token) -> Result<bool, Memory>
+        ensures { Went (moved pat_start token.now) self.old result self.new }
+    {
+        match start_of(token.place, sort_of(token.kind)) {
+            Some(start) => {
+                self.restart(Head::Whole);
+                self.put_start(start)?;
+                Ok(true)
+            }
+            None => Ok(false),
+        }
+    }
+
+    /// Takes the token as a reader of one simple pattern takes its first. If it does not, nothing changes. After `Memory`
+    /// the reader is not used again.
+    #[tactic(auto, unfolding(crate::specs::Moves::moved))]
+    pub fn begin_apat(&mut self, token: &Token) -> Result<bool, Memory>
+        ensures { Went (moved apat_start token.now) self.old result self.new }
+    {
+        match start_of(token.place, sort_of(token.kind)) {
+            Some(start) => {
+                self.restart(Head::Single);
+                self.put_start(start)?;
+                Ok(true)
+            }
+            None => Ok(false),
+        }
+    }
+
     /// Takes the token, if it may stand here. If not, nothing changes. After `Memory` the reader is not used again.
     #[tactic(auto, unfolding(crate::specs::Moves::moved))]
     pub fn take(&mut self, token: &Token) -> Result<bool, Memory>
@@ -392,8 +441,7 @@ impl PatReader {
         self.frames.is_empty() && matches!(self.last, Last::Named(_, _) | Last::Done)
     }
 
-    /// What is due at the end, if a simple pattern is whole.
-    fn due(&self) -> Option<Due>
+    fn due_last(&self) -> Option<Due>
         ensures { option_map (λ due. put_due due self.now.nodes) result ≡ done_last self.now.last self.now.head self.now.nodes }
     {
         match self.last {
@@ -409,14 +457,21 @@ impl PatReader {
         }
     }
 
-    /// The nodes of what was read, if it is whole.
+    /// The nodes that are due after those that are out, if the tokens taken are whole. Takes no memory.
     #[tactic(auto, unfolding(crate::specs::Moves::done))]
+    pub fn due(&self) -> Option<Due>
+        ensures { option_map (λ due. put_due due self.now.nodes) result ≡ done self.now }
+    {
+        if !self.frames.is_empty() {
+            return None;
+        }
+        self.due_last()
+    }
+
+    /// The nodes of what was read, if it is whole.
     pub fn finish(mut self) -> Result<Option<List<PatNode>>, Memory>
         ensures { IfOk result (λ nodes. nodes ≡ done self) }
     {
-        if !self.frames.is_empty() {
-            return Ok(None);
-        }
         let Some(due) = self.due() else {
             return Ok(None);
         };

@@ -315,3 +315,29 @@ fn deep_nesting_takes_no_stack(rt: HostRuntime) -> Result<(), Fail> {
     assert!(rt; reads(PatReader::pat(alloc), &kinds, 200_002, &[var])?);
     Ok(())
 }
+
+#[test]
+fn a_reader_begins_anew(rt: HostRuntime) -> Result<(), Fail> {
+    let mut reader = PatReader::pat(rt.alloc());
+    // ( A
+    assert_eq!(rt; feed(&mut reader, &[OPEN, A])?, 3);
+    // a token that begins no pattern changes nothing
+    let comma = Token {
+        place: at(3),
+        kind: COMMA,
+    };
+    let con = Token {
+        place: at(3),
+        kind: B,
+    };
+    assert!(rt; !reader.begin_apat(&comma)?);
+    assert!(rt; reader.take(&comma)?);
+    // a simple pattern takes no arguments, another one does
+    assert!(rt; reader.begin_apat(&con)?);
+    assert!(rt; !reader.take(&con)?);
+    assert!(rt; reader.begin_pat(&con)?);
+    assert!(rt; reader.take(&con)?);
+    reader.restart_pat();
+    assert!(rt; reads(reader, &[X], 2, &[PatNode::Var(at(1), Name(110))])?);
+    Ok(())
+}
