@@ -90,7 +90,7 @@ impl PatBuilder {
     }
 
     /// Takes the last part off, if it is a pattern.
-    fn pop_pat(&mut self) -> Option<Pat>
+    pub fn pop_pat(&mut self) -> Option<Pat>
         ensures { LastOff (pat_off self.old.parts) result self.new.parts }
     {
         match self.parts.pop() {

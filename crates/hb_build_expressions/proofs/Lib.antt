@@ -1,0 +1,4 @@
+pub mod ExpressionLaws
+pub mod ExpressionsFound
+pub mod RunLaws
+pub mod TakingLaws

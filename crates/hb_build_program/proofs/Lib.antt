@@ -1,0 +1,7 @@
+pub mod Counted
+pub mod DeclarationsFound
+pub mod InitsFound
+pub mod Parsed
+pub mod ParsedExpressions
+pub mod PartsFound
+pub mod ProgramLaws

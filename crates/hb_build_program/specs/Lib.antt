@@ -1,0 +1,4 @@
+pub mod DeclarationSteps
+pub mod MemberSteps
+pub mod ParsedProgram
+pub mod States
