@@ -115,6 +115,16 @@ fn a_second_port_of_a_name_is_wrong(rt: HostRuntime) -> Result<(), Fail> {
 }
 
 #[test]
+fn an_equation_without_its_signature_is_wrong(rt: HostRuntime) -> Result<(), Fail> {
+    let mut making = Making::new(rt.alloc())?;
+    making.port(b"tx", Dir::Out, 0x8000_0000)?;
+    making.open();
+    making.close()?;
+    assert_eq!(rt; refused(rt.alloc(), making), Some(2));
+    Ok(())
+}
+
+#[test]
 fn a_statement_that_names_no_variable_is_wrong(rt: HostRuntime) -> Result<(), Fail> {
     let mut making = begun(rt.alloc())?;
     making.read(b"x", b"rx")?;

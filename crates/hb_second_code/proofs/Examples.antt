@@ -1,5 +1,5 @@
 -- The sources of the tests, over the ports of an echo.
-use Rattle.std.proofs.Common.{ℕ, ◌≤◌, List, [], ◌∷◌, length, refl, arith}
+use Rattle.std.proofs.Common.{◌≤◌, List, [], ◌∷◌, length, refl, arith}
 use Rattle.std.specs.Prelude.{codes}
 use Rattle.hb_base.specs.declared.port.Dir.TheVariants.{In, Out}
 use Rattle.hb_second.specs.declared.source.Statement.{Statement}
