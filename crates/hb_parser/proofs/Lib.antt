@@ -1,1 +1,2 @@
 pub mod SyntaxLaws
+pub mod ParsingLaws

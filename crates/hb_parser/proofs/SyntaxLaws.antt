@@ -15,17 +15,11 @@ use Rattle.hb_read_declarations.specs.declared.node.DeclNode.{DeclNode}
 use Rattle.hb_read_declarations.specs.Nodes.{program_nodes}
 use Rattle.hb_read_declarations.specs.Exactly.{ProgramRead, Made}
 use Rattle.hb_read_declarations.proofs.Program.{derived, deriving_reads}
-use Rattle.hb_parser.specs.Parsing.{CanGoOn, FirstWrong}
+use Rattle.hb_parser.specs.Parsing.{CanGoOn, FirstWrong, HasNodes}
 
 -- the reader reads the programs
 abbrev pub ReadsPrograms : {S : Type 0} → Reader S (List DeclNode) → Type 0
 ReadsPrograms reader = Exact reader (Made ProgramRead program_nodes)
-
--- a program that these tokens are, and its nodes
-pub record IsRead (ts : List Token) (nodes : List DeclNode) : Type 0 where
-  pub program : Program
-  pub derives : Derives ts program
-  pub are : nodes ≡ program_nodes program
 
 nothing_after : {A : Type 0} (xs : List A) → xs ++ [] ≡ xs
 nothing_after [] = refl
@@ -40,7 +34,7 @@ not_nothing [] y zs e = cc
 not_nothing (x ∷ xs) y zs e = cc
 
 -- where the reader is whole behind all tokens, they are a program
-pub whole_read : {S : Type 0} {reader : Reader S (List DeclNode)} {s : S} {ts : List Token} {nodes : List DeclNode} → ReadsPrograms reader → LeadsTo reader reader.start ts s → reader.done s ≡ Some nodes → IsRead ts nodes
+pub whole_read : {S : Type 0} {reader : Reader S (List DeclNode)} {s : S} {ts : List Token} {nodes : List DeclNode} → ReadsPrograms reader → LeadsTo reader reader.start ts s → reader.done s ≡ Some nodes → HasNodes ts nodes
 whole_read {reader} {ts} {nodes} exact l d =
     let run : Runs reader reader.start (ts ++ []) nodes [] = leads_runs l (stop d) in
     let made = exact.sound (subst (λ xs. Runs reader reader.start xs nodes []) (nothing_after ts) run) in

@@ -127,14 +127,14 @@ small_run (x ∷ xs) r n small e = small_by x xs r n small (λ m s f. small_run 
 
 -- ---- statements and declarations one after another
 
-statement_first : (names : List (List ℕ)) (s : Stmt) (rest : List Stmt) → statement_items names (stmts (s ∷ rest)) ≡ statement_items names (stmts (s ∷ [])) ++ statement_items names (stmts rest)
-statement_first names (Take p e) rest = refl
-statement_first names (Let local) rest = refl
-statement_first names (Do e) rest = refl
+statement_first : (names : List (List ℕ)) (around : Place) (s : Stmt) (rest : List Stmt) → statement_items names around (stmts (s ∷ rest)) ≡ statement_items names around (stmts (s ∷ [])) ++ statement_items names around (stmts rest)
+statement_first names around (Take p e) rest = refl
+statement_first names around (Let local) rest = refl
+statement_first names around (Do e) rest = refl
 
-statements_from : (names : List (List ℕ)) (ss : List Stmt) (i : ℕ) (s : Stmt) → i < length ss → s ≡ get_or ss i s → statement_items names (stmts (drop i ss)) ≡ statement_items names (stmts (s ∷ [])) ++ statement_items names (stmts (drop (suc i) ss))
-statements_from names ss i s within is =
-    ap (λ xs. statement_items names (stmts xs)) (drop-cons ss i s within ∙ ap (λ x. x ∷ drop (suc i) ss) (sym is)) ∙ statement_first names s (drop (suc i) ss)
+statements_from : (names : List (List ℕ)) (around : Place) (ss : List Stmt) (i : ℕ) (s : Stmt) → i < length ss → s ≡ get_or ss i s → statement_items names around (stmts (drop i ss)) ≡ statement_items names around (stmts (s ∷ [])) ++ statement_items names around (stmts (drop (suc i) ss))
+statements_from names around ss i s within is =
+    ap (λ xs. statement_items names around (stmts xs)) (drop-cons ss i s within ∙ ap (λ x. x ∷ drop (suc i) ss) (sym is)) ∙ statement_first names around s (drop (suc i) ss)
 
 decls_from : (names : List (List ℕ)) (ds : List Decl) (i : ℕ) (d : Decl) → i < length ds → d ≡ get_or ds i d → all_items names (drop i ds) ≡ decl_items names d ++ all_items names (drop (suc i) ds)
 decls_from names ds i d within is = ap (all_items names) (drop-cons ds i d within ∙ ap (λ x. x ∷ drop (suc i) ds) (sym is))
@@ -146,8 +146,8 @@ on_ok whole left part after r n e w h = w ∙ ap (run r) e ∙ run_ok part after
 pub on_err : (whole : Result Reader Place) (left part after : List Placed) (r : Reader) (place : Place) → left ≡ part ++ after → whole ≡ run r left → run r part ≡ Err place → whole ≡ Err place
 on_err whole left part after r place e w h = w ∙ ap (run r) e ∙ run_err part after r place h
 
-abbrev pub StatementsLeft : List (List ℕ) → List Stmt → ℕ → Result Reader Place → Reader → Type 0
-StatementsLeft names ss i all r = (all ≡ run r (statement_items names (stmts (drop i ss)))) × IsSmall r
+abbrev pub StatementsLeft : List (List ℕ) → Place → List Stmt → ℕ → Result Reader Place → Reader → Type 0
+StatementsLeft names around ss i all r = (all ≡ run r (statement_items names around (stmts (drop i ss)))) × IsSmall r
 
 abbrev pub DeclsLeft : List (List ℕ) → List Decl → ℕ → Result Reader Place → Reader → Type 0
 DeclsLeft names ds i all r = (all ≡ run r (all_items names (drop i ds))) × IsSmall r
@@ -158,21 +158,21 @@ is_ok part r n wrong h e = h ∙ ap (λ w. outcome w n) e
 is_err : (part : List Placed) (r n : Reader) (wrong : Option Place) (place : Place) → run r part ≡ outcome wrong n → wrong ≡ Some place → run r part ≡ Err place
 is_err part r n wrong place h e = h ∙ ap (λ w. outcome w n) e
 
-pub statement_ok : (names : List (List ℕ)) (ss : List Stmt) (i : ℕ) (s : Stmt) (all : Result Reader Place) (r n : Reader) (wrong : Option Place) → i < length ss → s ≡ get_or ss i s → StatementsLeft names ss i all r → run r (statement_items names (stmts (s ∷ []))) ≡ outcome wrong n → wrong ≡ None → StatementsLeft names ss (i + 1) all n
-statement_ok names ss i s all r n wrong within is left h e =
+pub statement_ok : (names : List (List ℕ)) (around : Place) (ss : List Stmt) (i : ℕ) (s : Stmt) (all : Result Reader Place) (r n : Reader) (wrong : Option Place) → i < length ss → s ≡ get_or ss i s → StatementsLeft names around ss i all r → run r (statement_items names around (stmts (s ∷ []))) ≡ outcome wrong n → wrong ≡ None → StatementsLeft names around ss (i + 1) all n
+statement_ok names around ss i s all r n wrong within is left h e =
     let fits = is_ok _ r n wrong h e in
     let next : suc i ≡ i + 1 = omega arith in (
-      subst (λ k. all ≡ run n (statement_items names (stmts (drop k ss)))) next (on_ok all _ _ _ r n (statements_from names ss i s within is) left.0 fits),
+      subst (λ k. all ≡ run n (statement_items names around (stmts (drop k ss)))) next (on_ok all _ _ _ r n (statements_from names around ss i s within is) left.0 fits),
       small_run _ r n left.1 fits,
     )
 
-pub statement_err : (names : List (List ℕ)) (ss : List Stmt) (i : ℕ) (s : Stmt) (all : Result Reader Place) (r n : Reader) (wrong : Option Place) (place : Place) → i < length ss → s ≡ get_or ss i s → StatementsLeft names ss i all r → run r (statement_items names (stmts (s ∷ []))) ≡ outcome wrong n → wrong ≡ Some place → all ≡ Err place
-statement_err names ss i s all r n wrong place within is left h e =
-    on_err all _ _ _ r place (statements_from names ss i s within is) left.0 (is_err _ r n wrong place h e)
+pub statement_err : (names : List (List ℕ)) (around : Place) (ss : List Stmt) (i : ℕ) (s : Stmt) (all : Result Reader Place) (r n : Reader) (wrong : Option Place) (place : Place) → i < length ss → s ≡ get_or ss i s → StatementsLeft names around ss i all r → run r (statement_items names around (stmts (s ∷ []))) ≡ outcome wrong n → wrong ≡ Some place → all ≡ Err place
+statement_err names around ss i s all r n wrong place within is left h e =
+    on_err all _ _ _ r place (statements_from names around ss i s within is) left.0 (is_err _ r n wrong place h e)
 
-pub statement_end : (names : List (List ℕ)) (ss : List Stmt) (i : ℕ) (all : Result Reader Place) (r : Reader) → length ss ≤ i → StatementsLeft names ss i all r → all ≡ Ok r
+pub statement_end : (names : List (List ℕ)) (around : Place) (ss : List Stmt) (i : ℕ) (all : Result Reader Place) (r : Reader) → length ss ≤ i → StatementsLeft names around ss i all r → all ≡ Ok r
 unfolding run
-statement_end names ss i all r past left = left.0 ∙ ap (λ xs. run r (statement_items names (stmts xs))) (drop_all i ss past)
+statement_end names around ss i all r past left = left.0 ∙ ap (λ xs. run r (statement_items names around (stmts xs))) (drop_all i ss past)
 
 pub decl_ok : (names : List (List ℕ)) (ds : List Decl) (i : ℕ) (d : Decl) (all : Result Reader Place) (r n : Reader) (wrong : Option Place) → i < length ds → d ≡ get_or ds i d → DeclsLeft names ds i all r → run r (decl_items names d) ≡ outcome wrong n → wrong ≡ None → DeclsLeft names ds (i + 1) all n
 decl_ok names ds i d all r n wrong within is left h e =
@@ -194,11 +194,11 @@ decl_end names ds i all r past left = left.0 ∙ ap (λ xs. run r (all_items nam
 
 pub bind_stops : (names : List (List ℕ)) (r n : Reader) (place : Place) (o : Option Stmts) (ss : Stmts) (fits : Bool) → Some ss ≡ o → step r TheEquation ≡ given fits n → fits ≡ false → run r (equation_items names place o) ≡ Err place
 bind_stops names r n place o ss fits is e f =
-    ap (λ p. run r (equation_items names place p)) (sym is) ∙ run_stops r _ (statement_items names ss) (e ∙ ap (λ b. given b n) f)
+    ap (λ p. run r (equation_items names place p)) (sym is) ∙ run_stops r _ (statement_items names place ss) (e ∙ ap (λ b. given b n) f)
 
-pub bind_goes : (names : List (List ℕ)) (r n last : Reader) (place : Place) (o : Option Stmts) (ss : Stmts) (fits : Bool) (wrong : Option Place) → Some ss ≡ o → step r TheEquation ≡ given fits n → fits ≡ true → run n (statement_items names ss) ≡ outcome wrong last → run r (equation_items names place o) ≡ outcome wrong last
+pub bind_goes : (names : List (List ℕ)) (r n last : Reader) (place : Place) (o : Option Stmts) (ss : Stmts) (fits : Bool) (wrong : Option Place) → Some ss ≡ o → step r TheEquation ≡ given fits n → fits ≡ true → run n (statement_items names place ss) ≡ outcome wrong last → run r (equation_items names place o) ≡ outcome wrong last
 bind_goes names r n last place o ss fits wrong is e f h =
-    ap (λ p. run r (equation_items names place p)) (sym is) ∙ run_taken r n _ (statement_items names ss) (e ∙ ap (λ b. given b n) f) ∙ h
+    ap (λ p. run r (equation_items names place p)) (sym is) ∙ run_taken r n _ (statement_items names place ss) (e ∙ ap (λ b. given b n) f) ∙ h
 
 pub bind_none : (names : List (List ℕ)) (r : Reader) (place : Place) (o : Option Stmts) → None ≡ o → run r (equation_items names place o) ≡ Err place
 bind_none names r place o is = ap (λ p. run r (equation_items names place p)) (sym is) ∙ run_other r place []

@@ -155,16 +155,16 @@ first_place (AnExpr node place (Select e name)) = first_place e
 first_place (AnExpr node place (Update e fields)) = first_place e
 first_place (AnExpr node place kind) = place
 
--- the place of the first definition; a `let` always has one
-abbrev pub let_place : Binds → Place
-let_place NoBinds = record { line = 0; col = 0 }
-let_place (MoreBinds name place rows rest) = place
+-- the place of the first definition; without one, that of the equation around
+abbrev pub let_place : Place → Binds → Place
+let_place around NoBinds = around
+let_place around (MoreBinds name place rows rest) = place
 
-abbrev pub statement_items : List (List ℕ) → Stmts → List Placed
-statement_items names NoStmts = []
-statement_items names (TakeThen p e rest) = at (pat_place p) (take_item names p e) ∷ statement_items names rest
-statement_items names (LetThen local rest) = at (let_place local) Other ∷ statement_items names rest
-statement_items names (DoThen e rest) = at (first_place e) (do_item names e) ∷ statement_items names rest
+abbrev pub statement_items : List (List ℕ) → Place → Stmts → List Placed
+statement_items names around NoStmts = []
+statement_items names around (TakeThen p e rest) = at (pat_place p) (take_item names p e) ∷ statement_items names around rest
+statement_items names around (LetThen local rest) = at (let_place around local) Other ∷ statement_items names around rest
+statement_items names around (DoThen e rest) = at (first_place e) (do_item names e) ∷ statement_items names around rest
 
 -- ---- declarations
 
@@ -213,7 +213,7 @@ main_statements names bind = if is_named names (codes "main") bind.name then row
 
 abbrev pub equation_items : List (List ℕ) → Place → Option Stmts → List Placed
 equation_items names place None = at place Other ∷ []
-equation_items names place (Some all) = at place TheEquation ∷ statement_items names all
+equation_items names place (Some all) = at place TheEquation ∷ statement_items names place all
 
 -- an equation `main = do ..` is an item by itself, and then each of its statements is one
 abbrev pub decl_items : List (List ℕ) → Decl → List Placed

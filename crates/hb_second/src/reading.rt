@@ -42,23 +42,24 @@ fn wrong_at(fits: bool, place: Place) -> Option<Place>
     if fits { None } else { Some(place) }
 }
 
-/// Takes a statement, or answers its place if it cannot stand.
+/// Takes a statement of the equation that stands here, or answers the statement's place if it cannot stand.
 #[tactic(auto, using(crate::proofs::RunLaws::run_one, crate::proofs::RunLaws::run_other))]
 fn take_statement(
     alloc: Global,
     names: &Names,
     reader: &mut Reader,
+    around: Place,
     statement: &Stmt,
 ) -> Result<Option<Place>, Memory>
     requires { IsSmall reader.old }
-    ensures { IfOk result (λ wrong. run reader.old (statement_items names.now (stmts (statement.now ∷ []))) ≡ outcome wrong reader.new) }
+    ensures { IfOk result (λ wrong. run reader.old (statement_items names.now around (stmts (statement.now ∷ []))) ≡ outcome wrong reader.new) }
 {
     match statement {
         Stmt::Take(pat, expr) => {
             let fits = reader.take_take(alloc, names, pat, expr)?;
             Ok(wrong_at(fits, pat.place))
         }
-        Stmt::Let(local) => Ok(Some(let_place(local.as_slice()))),
+        Stmt::Let(local) => Ok(Some(let_place(around, local.as_slice()))),
         Stmt::Do(expr) => {
             let fits = reader.take_do(names, expr)?;
             Ok(wrong_at(fits, first_place(expr)))
@@ -66,18 +67,19 @@ fn take_statement(
     }
 }
 
-/// Takes statements, or answers the place of the first that cannot stand.
+/// Takes statements of the equation that stands here, or answers the place of the first that cannot stand.
 fn take_statements(
     alloc: Global,
     names: &Names,
     reader: &mut Reader,
+    around: Place,
     statements: &[Stmt],
 ) -> Result<Option<Place>, Memory>
     requires { IsSmall reader.old }
-    ensures { IfOk result (λ wrong. run reader.old (statement_items names.now (stmts statements.now)) ≡ outcome wrong reader.new) }
+    ensures { IfOk result (λ wrong. run reader.old (statement_items names.now around (stmts statements.now)) ≡ outcome wrong reader.new) }
 {
     for statement in statements {
-        let wrong = take_statement(alloc, names, reader, statement)?;
+        let wrong = take_statement(alloc, names, reader, around, statement)?;
         match wrong {
             Some(place) => return Ok(Some(place)),
             None => {}
@@ -101,7 +103,7 @@ fn take_bind(
             if !reader.take_equation() {
                 return Ok(Some(bind.place));
             }
-            let wrong = take_statements(alloc, names, reader, statements)?;
+            let wrong = take_statements(alloc, names, reader, bind.place, statements)?;
             Ok(wrong)
         }
         None => Ok(Some(bind.place)),

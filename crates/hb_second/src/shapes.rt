@@ -159,12 +159,12 @@ pub fn first_place(expr: &Expr) -> Place
     }
 }
 
-/// The place of the first of these definitions.
-pub fn let_place(local: &[Bind]) -> Place
-    ensures { result ≡ let_place (binds local.now) }
+/// The place of the first of these definitions; without one, that of the equation around.
+pub fn let_place(around: Place, local: &[Bind]) -> Place
+    ensures { result ≡ let_place around (binds local.now) }
 {
     match local {
         [first, ..] => first.place,
-        [] => Place { line: 0, col: 0 },
+        [] => around,
     }
 }
