@@ -7,3 +7,5 @@ mod instructions;
 mod rows;
 #[cfg(test)]
 mod seen;
+#[cfg(test)]
+mod sources;

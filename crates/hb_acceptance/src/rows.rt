@@ -11,7 +11,8 @@ const THREE_WRITES: &[u8] =
 
 const EMPTY_DO: &[u8] = b"{ port tx :: Out (Bit 8) at X80000000; main :: M Unit; main = do { } }";
 
-const IN_PORT: &[u8] = b"{ port tx :: In (Bit 8) at X80000000; main :: M Unit; main = do { } }";
+const IN_PORT: &[u8] =
+    b"{ port tx :: In (Bit 8) at X80000000; main :: M Unit; main = do { writePort tx X41 } }";
 
 const RUN: &[u8] = b"run a.hb a.script a.img";
 
@@ -42,7 +43,7 @@ fn an_empty_do_is_refused_at_its_end(rt: HostRuntime) {
 fn an_in_port_alone_is_refused_behind_it(rt: HostRuntime) {
     let seen = run(&rt, rt.alloc(), IN_PORT);
     assert_eq!(rt; seen.status, 1);
-    assert_eq!(rt; seen.text.as_slice(), b"refused E04 1:39 -\n".as_slice());
+    assert_eq!(rt; seen.text.as_slice(), b"refused E05 1:39 form\n".as_slice());
     assert_eq!(rt; seen.image, None);
 }
 
@@ -117,7 +118,9 @@ fn a_thousand_writes_are_put_and_one_more_is_refused(rt: HostRuntime) -> Result<
             .starts_with(b"w tx 41\nw tx 42\n".as_slice())
     );
     assert!(rt; whole.text.len() > 8 * 1000);
-    assert_eq!(rt; run(&rt, alloc, more.as_slice()).status, 1);
+    let refused = run(&rt, alloc, more.as_slice());
+    assert_eq!(rt; refused.status, 1);
+    assert_eq!(rt; refused.text.as_slice(), b"refused E05 1:18068 form\n".as_slice());
     Ok(())
 }
 
