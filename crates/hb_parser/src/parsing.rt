@@ -4,12 +4,51 @@ ghost use Rattle.hb_base.specs.declared.refusal.Fault.TheVariants.{Memory as Out
 ghost use Rattle.hb_tokens.specs.Ends.{ends_once};
 ghost use Rattle.hb_tokens.specs.Faults.{IfRefused};
 ghost use Rattle.hb_tree.specs.declared.declaration.Program.{Program as Tree};
-ghost use Rattle.hb_parser.specs.Parsing.{Parses, FirstFault};
+ghost use Rattle.hb_parser.specs.Parsing.{FirstWrong, HasNodes, Parses, FirstFault, Builds};
 
-use hb_base::Fault;
-use hb_tokens::Tokens;
+use hb_base::{Code, Fault, List, Memory, Place};
+use hb_build_program::build_program;
+use hb_depth::first_too_deep;
+use hb_read_declarations::DeclNode;
+use hb_read_programs::ProgramReader;
+use hb_tokens::{Token, Tokens, refused};
 use hb_tree::Program;
 use std::alloc::Global;
+
+/// The nodes of the program that tokens are, or the place of the first wrong token.
+fn read_nodes(
+    alloc: Global,
+    tokens: &[Token],
+) -> Result<Result<List<DeclNode>, Place>, Memory>
+    requires end { IsTrue (ends_once tokens.now) }
+    ensures { IfOk result (λ answer. MatchResult answer (HasNodes tokens.now) (FirstWrong tokens.now)) }
+{
+    let mut reader = ProgramReader::new(alloc)?;
+    for token in tokens {
+        if !reader.take(*token)? {
+            return Ok(Err(token.place));
+        }
+    }
+    match reader.finish()? {
+        Some(nodes) => Ok(Ok(nodes)),
+        // Behind its end a program is whole.
+        None => Err(Memory),
+    }
+}
+
+/// The program that has these nodes, or where a form in it is nested too deep.
+fn shallow_program(alloc: Global, nodes: &[DeclNode]) -> Result<Program, Fault>
+    ensures { Builds nodes.now result }
+{
+    if let Some(place) = first_too_deep(alloc, nodes)? {
+        return Err(refused(alloc, Code::E29, place, b"depth"));
+    }
+    match build_program(alloc, nodes)? {
+        Some(program) => Ok(program),
+        // The nodes of a program are put together.
+        None => Err(Fault::Memory),
+    }
+}
 
 /// The program that laid-out tokens are. The last of them, and no other, is the end.
 ///
@@ -25,7 +64,8 @@ pub fn parse(alloc: Global, tokens: &Tokens) -> Result<Program, Fault>
     ensures only { (p : Tree) → Parses tokens.now.list p → MatchResult result (λ answer. answer ≡ p) (λ fault. fault ≡ OutOfMemory) }
     ensures refused { (refusal : ARefusal) → FirstFault tokens.now.list refusal → MatchResult result (λ answer. ⊥) (IfRefused (λ other. other ≡ refusal)) }
 {
-    let _ = alloc;
-    let _ = tokens;
-    Err(Fault::Memory)
+    match read_nodes(alloc, tokens.list.as_slice())? {
+        Ok(nodes) => shallow_program(alloc, nodes.as_slice()),
+        Err(place) => Err(refused(alloc, Code::E04, place, b"-")),
+    }
 }

@@ -6,13 +6,14 @@ use Rattle.hb_grammar.specs.Reading.{Reader, Exact}
 use Rattle.hb_grammar.specs.Declarations.{ReadsDecl}
 use Rattle.hb_read_patterns.specs.declared.reader.PatReader.{PatReader}
 use Rattle.hb_read_declarations.specs.Nodes.{decl_nodes, program_nodes}
-use Rattle.hb_read_declarations.specs.Readers.{Out, ProgramState, decl_reader, program_reader}
+use Rattle.hb_read_declarations.specs.Readers.{Out, ProgramState, an_expr, decl_reader, program_reader}
 use Rattle.hb_read_declarations.specs.Exactly.{Made, ProgramRead}
 use Rattle.hb_read_declarations.proofs.Program.{InitKnown, decl_exact, program_exact, whole_end}
 use Rattle.hb_read_declarations.proofs.EquationTokens.{equation_known}
-use Rattle.hb_read_declarations.specs.Initials.{InitState, init_reader}
+use Rattle.hb_read_declarations.specs.declared.initial.InitState.{InitState}
+use Rattle.hb_read_declarations.specs.Initials.{init_reader}
 use Rattle.hb_read_expressions.specs.declared.state.State.{State}
-use Rattle.hb_read_declarations.proofs.InitKnowing.{an_expr, an_init_known}
+use Rattle.hb_read_declarations.proofs.InitKnowing.{an_init_known}
 
 pub decl_reader_exact : {S : Type 0} (pats : PatReader) (init : Reader S Out) → InitKnown init → Exact (decl_reader pats init) (Made ReadsDecl decl_nodes)
 decl_reader_exact pats init k = decl_exact pats init (equation_known pats) k

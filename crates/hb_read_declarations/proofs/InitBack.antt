@@ -32,7 +32,7 @@ data Rest {S : Type 0} (expr : Reader S Out) : List Frame → Now S → Out → 
   r_over : {fs : List Frame} {out v : Out} {ts us : List Token} → Cont expr fs out ts v us → Rest expr fs Over out ts v us
 
 abbrev RestOf : {S : Type 0} → Reader S Out → InitState S → List Token → Out → List Token → Type 0
-RestOf expr x ts v us = Rest expr x.frames x.now x.nodes ts v us
+RestOf expr x ts v us = Rest expr x.frames x.last x.nodes ts v us
 
 -- one step back, by what was read last
 
@@ -128,8 +128,8 @@ done_back expr fs Over out e = r_over (settled_back expr fs out e)
 done_back expr fs n out e = cc
 
 rest_of : {S : Type 0} (expr : Reader S Out) {x : InitState S} {v : Out} {ts us : List Token} → Runs (init_reader expr) x ts v us → RestOf expr x ts v us
-rest_of expr (stop {s} e) = done_back expr s.frames s.now s.nodes e
-rest_of expr (take {s} {t} e h) = now_back expr s.frames s.now s.nodes t e (rest_of expr h)
+rest_of expr (stop {s} e) = done_back expr s.frames s.last s.nodes e
+rest_of expr (take {s} {t} e h) = now_back expr s.frames s.last s.nodes t e (rest_of expr h)
 
 at_bottom : {S : Type 0} {expr : Reader S Out} {out w v : Out} {ts us vs : List Token} → InitPuts expr out ts w us → Cont expr [] w us v vs → InitPuts expr out ts v vs
 at_bottom h at_end = h

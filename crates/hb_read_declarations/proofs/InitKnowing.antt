@@ -27,7 +27,7 @@ use Rattle.hb_read_declarations.specs.declared.node.DeclNode.TheVariants as node
 use Rattle.hb_read_declarations.specs.Combined.{mapped, worth_of}
 use Rattle.hb_read_declarations.specs.Nodes.{valued, named}
 use Rattle.hb_read_declarations.specs.Worths.{var, this_word, mark}
-use Rattle.hb_read_declarations.specs.Readers.{Out}
+use Rattle.hb_read_declarations.specs.Readers.{an_expr, Out}
 use Rattle.hb_read_declarations.specs.Initials.{Frame, InEach, InField, Now, Want, EachWord, EachName, FieldsWord, Field, FieldName, Cell, Over, InitState, at, put, put_cell, is_bar, is_close, is_each, is_fields, next, in_cell, move_now, done_now, init_reader}
 use Rattle.hb_read_declarations.proofs.Known.{Known, some_is, true_false, not_some, equal_is, or_cases, known_by, member_right}
 use Rattle.hb_read_declarations.proofs.Fine.{worth_known}
@@ -119,9 +119,6 @@ expr_made h = record { thing = h.expr; read = h.reads; is = h.is }
 made_expr : {ts us : List Token} {v : List ExprNode} → Made ReadsExpr expr_nodes ts v us → ExprOf ts v us
 made_expr h = record { expr = h.thing; reads = h.read; is = h.is }
 
-abbrev pub an_expr : PatReader → Reader State Out
-an_expr pats = worth_of valued (expr_reader pats)
-
 abbrev pub ExprKnown : {S : Type 0} → Reader S Out → Type 0
 ExprKnown expr = Known expr Exprs false expr_codes (λ c. member c going_codes) inside
 
@@ -148,7 +145,7 @@ cells_of {expr} k = record {
 -- cells are reached as the reader of expressions reaches them
 
 abbrev GoodState : {S : Type 0} → Reader S Out → InitState S → Type 0
-GoodState expr x = Good expr x.now
+GoodState expr x = Good expr x.last
 
 good_as : {S : Type 0} (expr : Reader S Out) (x : InitState S) {y : InitState S} → Some x ≡ Some y → GoodState expr x → GoodState expr y
 good_as {S} expr x e h = let P : InitState S → Type 0 = λ y. GoodState expr y in subst P (some_is e) h
@@ -183,7 +180,7 @@ move_good expr fs Over out t g e = next_good expr fs out t e
 
 reached_good : {S : Type 0} (expr : Reader S Out) {x : InitState S} → Reached (init_reader expr) x → GoodState expr x
 reached_good expr at_start = tt
-reached_good expr (after {s} {t} h e) = move_good expr s.frames s.now s.nodes t (reached_good expr h) e
+reached_good expr (after {s} {t} h e) = move_good expr s.frames s.last s.nodes t (reached_good expr h) e
 
 -- which tokens
 
@@ -233,11 +230,11 @@ init_known {expr} k = record {
   exact = record {
     sound = λ h. sound (cells_of k) h;
     complete = λ h. complete (cells_of k) h;
-    alive = λ {s} h. state_ended (cells_of k) s.frames s.now s.nodes (reached_good expr h);
+    alive = λ {s} h. state_ended (cells_of k) s.frames s.last s.nodes (reached_good expr h);
   };
   begins = λ {r} {t} e. init_begins k t e;
-  ends = λ {s} {r} {t} h d e. init_ends k s.frames s.now s.nodes t d e;
-  takes = λ {s} {r} {t} e. init_takes k s.frames s.now s.nodes t e;
+  ends = λ {s} {r} {t} h d e. init_ends k s.frames s.last s.nodes t d e;
+  takes = λ {s} {r} {t} e. init_takes k s.frames s.last s.nodes t e;
   nothing = refl;
 }
 

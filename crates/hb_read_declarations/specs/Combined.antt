@@ -4,6 +4,16 @@ use Rattle.hb_base.specs.declared.place.Place.{Place}
 use Rattle.hb_tokens.specs.declared.token.Token.{Token}
 use Rattle.hb_grammar.specs.Tokens.{first_place}
 use Rattle.hb_grammar.specs.Reading.{Reader}
+pub use Rattle.hb_read_declarations.specs.declared.then.Then.{Then}
+pub use Rattle.hb_read_declarations.specs.declared.then.Then.TheVariants.{First, Second}
+pub use Rattle.hb_read_declarations.specs.declared.either.Either.{Either}
+pub use Rattle.hb_read_declarations.specs.declared.either.Either.TheVariants.{Begin, Left, Right}
+pub use Rattle.hb_read_declarations.specs.declared.star.Star.{Star}
+pub use Rattle.hb_read_declarations.specs.declared.star.Star.TheVariants.{Between, Within}
+pub use Rattle.hb_read_declarations.specs.declared.placed.Placed.{Placed}
+pub use Rattle.hb_read_declarations.specs.declared.placed.Placed.TheVariants.{Before, Since}
+pub use Rattle.hb_read_declarations.specs.declared.fork.Fork.{Fork}
+pub use Rattle.hb_read_declarations.specs.declared.fork.Fork.TheVariants.{Sides, Turned}
 
 abbrev pub mapped : {A B : Type 0} → (A → B) → Option A → Option B
 mapped f None = None
@@ -39,10 +49,6 @@ pub data WorthReads {V W : Type 0} (f : V → W) (ReadsA : List Token → V → 
 
 -- One thing and then another.
 
-pub data Then (A V B : Type 0) : Type 0 where
-  First : A → Then A V B
-  Second : V → B → Then A V B
-
 -- the second goes on, behind what the first was worth
 abbrev pub second : {A V B : Type 0} → V → Option B → Option (Then A V B)
 second a None = None
@@ -74,11 +80,6 @@ pub data ThenReads {V W X : Type 0} (f : V → W → X) (ReadsA : List Token →
 
 -- One thing or another, as the first token says.
 
-pub data Either (A B : Type 0) : Type 0 where
-  Begin : Either A B
-  Left : A → Either A B
-  Right : B → Either A B
-
 abbrev pub left_or_right : {A B : Type 0} → Option A → Option B → Option (Either A B)
 left_or_right (Some r) other = Some (Left r)
 left_or_right None other = mapped Right other
@@ -105,10 +106,6 @@ pub data EitherReads {V : Type 0} (ReadsA ReadsB : List Token → V → List Tok
   right_one : {ts us : List Token} {v : V} → ReadsB ts v us → EitherReads ReadsA ReadsB ts v us
 
 -- Any number of things, each joined to what there was before.
-
-pub data Star (V A : Type 0) : Type 0 where
-  Between : V → Star V A
-  Within : V → A → Star V A
 
 abbrev pub within : {V A : Type 0} → V → Option A → Option (Star V A)
 within v None = None
@@ -137,10 +134,6 @@ pub data StarReads {V W : Type 0} (join : V → W → V) (ReadsA : List Token �
 
 -- A thing, with the place of its first token.
 
-pub data Placed (A : Type 0) : Type 0 where
-  Before : A → Placed A
-  Since : Place → A → Placed A
-
 abbrev pub placed_move : {A V : Type 0} → Reader A V → Placed A → Token → Option (Placed A)
 placed_move a (Before s) t = mapped (Since t.place) (a.move s t)
 placed_move a (Since p s) t = mapped (Since p) (a.move s t)
@@ -157,10 +150,6 @@ pub data PlacedReads {V W : Type 0} (f : Place → V → W) (ReadsA : List Token
 
 -- One thing, a mark and another thing; or something else. The first and the last are read side by side until the mark,
 -- which stands in neither.
-
-pub data Fork (A V B C : Type 0) : Type 0 where
-  Sides : Option A → Option B → Fork A V B C
-  Turned : V → C → Fork A V B C
 
 abbrev pub moved : {A V : Type 0} → Reader A V → Option A → Token → Option A
 moved a None t = None

@@ -6,35 +6,18 @@ use Rattle.hb_tokens.specs.declared.word.Word.TheVariants as word
 use Rattle.hb_grammar.specs.Reading.{Reader}
 use Rattle.hb_read_declarations.specs.declared.node.DeclNode.{DeclNode}
 use Rattle.hb_read_declarations.specs.declared.node.DeclNode.TheVariants as node
+pub use Rattle.hb_read_declarations.specs.declared.initial.Frame.{Frame}
+pub use Rattle.hb_read_declarations.specs.declared.initial.Now.{Now}
+pub use Rattle.hb_read_declarations.specs.declared.initial.InitState.{InitState}
+pub use Rattle.hb_read_declarations.specs.declared.initial.Frame.TheVariants.{InEach, InField}
+pub use Rattle.hb_read_declarations.specs.declared.initial.Now.TheVariants.{Want, EachWord, EachName, FieldsWord, Field, FieldName, Cell, Over}
 use Rattle.hb_read_declarations.specs.Combined.{mapped}
 use Rattle.hb_read_declarations.specs.Nodes.{named}
 use Rattle.hb_read_declarations.specs.Worths.{var, this_word, mark}
 use Rattle.hb_read_declarations.specs.Readers.{Out}
 
--- around an initialiser: `each` and its name, or fields, with the count of those before
-pub data Frame : Type 0 where
-  InEach : Frame
-  InField : ℕ → Frame
-
--- what was read last: nothing, `each`, its name, `fields`, `[` or `|`, a field's name, a part of an expression that begins
--- here, or `]`
-pub data Now (S : Type 0) : Type 0 where
-  Want : Now S
-  EachWord : Now S
-  EachName : Now S
-  FieldsWord : Now S
-  Field : ℕ → Now S
-  FieldName : ℕ → Now S
-  Cell : Place → S → Now S
-  Over : Now S
-
-pub record InitState (S : Type 0) : Type 0 where
-  pub frames : List Frame
-  pub now : Now S
-  pub nodes : Out
-
 abbrev pub at : {S : Type 0} → List Frame → Now S → Out → InitState S
-at frames now nodes = record { frames = frames; now = now; nodes = nodes }
+at frames now nodes = record { frames = frames; last = now; nodes = nodes }
 
 abbrev pub put : Out → DeclNode → Out
 put nodes n = nodes ++ n ∷ []
@@ -96,4 +79,4 @@ done_now expr frames Over nodes = settled frames nodes
 done_now expr frames now nodes = None
 
 abbrev pub init_reader : {S : Type 0} → Reader S Out → Reader (InitState S) Out
-init_reader expr = record { start = at [] Want []; move = λ s t. move_now expr s.frames s.now s.nodes t; done = λ s. done_now expr s.frames s.now s.nodes }
+init_reader expr = record { start = at [] Want []; move = λ s t. move_now expr s.frames s.last s.nodes t; done = λ s. done_now expr s.frames s.last s.nodes }

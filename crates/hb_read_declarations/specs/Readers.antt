@@ -5,6 +5,11 @@ use Rattle.hb_tokens.specs.declared.token.Token.{Token}
 use Rattle.hb_grammar.specs.Reading.{Reader}
 use Rattle.hb_read_declarations.specs.declared.node.DeclNode.{DeclNode}
 use Rattle.hb_read_declarations.specs.declared.node.DeclNode.TheVariants as node
+pub use Rattle.hb_read_declarations.specs.declared.parts.Digit.{Digit}
+pub use Rattle.hb_read_declarations.specs.declared.parts.PortType.{PortType}
+pub use Rattle.hb_read_declarations.specs.declared.parts.PortDir.{PortDir}
+pub use Rattle.hb_read_declarations.specs.declared.parts.SigNames.{SigNames}
+pub use Rattle.hb_read_declarations.specs.declared.parts.PortName.{PortName}
 use Rattle.hb_read_declarations.specs.Combined.{one, empty, Then, in_order, Either, either, Star, star, worth_of, Placed, placed, Fork, fork}
 use Rattle.hb_read_declarations.specs.Nodes.{Counted, no_things, one_thing, plus, closed}
 use Rattle.hb_base.specs.Fixed.{pad, slash}
@@ -20,7 +25,7 @@ use Rattle.hb_read_types.specs.declared.context_reader.ContextReader.{ContextRea
 use Rattle.hb_read_types.specs.declared.qualified_reader.QualifiedReader.{QualifiedReader}
 use Rattle.hb_read_patterns.specs.declared.reader.PatReader.{PatReader}
 use Rattle.hb_read_expressions.specs.declared.state.State.{State}
-use Rattle.hb_read_expressions.specs.Moves.{equation_reader}
+use Rattle.hb_read_expressions.specs.Moves.{equation_reader, expr_reader}
 use Rattle.hb_read_types.specs.TypeMoves.{type_reader, atype_reader}
 use Rattle.hb_read_types.specs.PredMoves.{pred_reader}
 use Rattle.hb_read_types.specs.ContextMoves.{context_reader}
@@ -156,10 +161,6 @@ a_pred = worth_of typed pred_reader
 
 -- fixity = ("infixl" | "infixr" | "infix") digit sep(infix, ",")
 
-pub record Digit : Type 0 where
-  pub digit : ℕ
-  pub nodes : Out
-
 abbrev pub digit_before : ℕ → Out → Digit
 digit_before k nodes = record { digit = k; nodes = nodes }
 
@@ -246,23 +247,11 @@ struct_reader = in_order (with_place node.Struct) (one (this_word word.Struct)) 
 
 -- port = "port" varid "::" ("In" | "Out") atype "at" bits
 
-pub record PortType : Type 0 where
-  pub nodes : Out
-  pub address : Width
-
 abbrev pub port_type : Out → Width → PortType
 port_type nodes address = record { nodes = nodes; address = address }
 
-pub record PortDir : Type 0 where
-  pub dir : Dir
-  pub of : PortType
-
 abbrev pub port_dir : Dir → PortType → PortDir
 port_dir dir of = record { dir = dir; of = of }
-
-pub record PortName : Type 0 where
-  pub name : Out
-  pub dir : PortDir
 
 abbrev pub port_name : Out → PortDir → PortName
 port_name name dir = record { name = name; dir = dir }
@@ -277,10 +266,6 @@ abbrev pub port_reader : Reader PortState Out
 port_reader = in_order port_nodes (one (this_word word.Port)) (in_order port_name a_var (in_order second_of (one (this_word word.DoubleColon)) (in_order port_dir (one direction) (in_order port_type an_atype (in_order second_of (one (this_word word.At)) (one bits))))))
 
 -- sig = sep(name, ",") "::" [context "=>"] type
-
-pub record SigNames : Type 0 where
-  pub place : Place
-  pub names : Out
 
 abbrev pub sig_names : Place → Out → SigNames
 sig_names place names = record { place = place; names = names }
@@ -369,6 +354,10 @@ class_reader = in_order (with_place node.Class) (one (this_word word.Class)) (in
 -- an equation; where its reader of patterns stands at first does not matter
 abbrev pub an_equation : PatReader → Reader State Out
 an_equation pats = worth_of valued (equation_reader pats)
+
+-- an expression
+abbrev pub an_expr : PatReader → Reader State Out
+an_expr pats = worth_of valued (expr_reader pats)
 
 abbrev pub SomeTypesState : Type 0
 SomeTypesState = Then TypeReader Out (Many TypeReader)

@@ -13,6 +13,8 @@ use Rattle.hb_tokens.specs.declared.word.Word.TheVariants as word
 use Rattle.hb_tree.specs.declared.declaration.Fix.{Fix}
 use Rattle.hb_tree.specs.declared.declaration.Fix.TheVariants.{Left, Right, Neither}
 use Rattle.hb_tree.specs.declared.types.NameAt.{NameAt}
+pub use Rattle.hb_read_declarations.specs.declared.parts.Width.{Width}
+pub use Rattle.hb_read_declarations.specs.declared.parts.FixAt.{FixAt}
 use Rattle.hb_read_declarations.specs.Codes.{word_code}
 
 abbrev pub at_place : Place → Name → NameAt
@@ -85,21 +87,12 @@ kind_digit _ = None
 abbrev pub digit : Token → Option ℕ
 digit t = kind_digit t.kind
 
--- bits: their width and their number
-pub record Width : Type 0 where
-  pub width : ℕ
-  pub number : ℕ
-
 abbrev pub kind_bits : TokenKind → Option Width
 kind_bits (Bits width k) = Some (record { width = width; number = k })
 kind_bits _ = None
 
 abbrev pub bits : Token → Option Width
 bits t = kind_bits t.kind
-
-pub record FixAt : Type 0 where
-  pub place : Place
-  pub fix : Fix
 
 abbrev pub fix_at : Place → Fix → FixAt
 fix_at place fix = record { place = place; fix = fix }

@@ -1,0 +1,45 @@
+-- What is open around an initialiser, as its code takes it apart.
+use Rattle.std.specs.Prelude.{ℕ, ◌+◌, if◌then◌else◌, List, [], ◌∷◌, Option, Some, None}
+use Rattle.hb_tokens.specs.declared.token.Token.{Token}
+use Rattle.hb_stack.specs.Stacks.{rest_of}
+use Rattle.hb_read_declarations.specs.declared.node.DeclNode.TheVariants as node
+use Rattle.hb_read_declarations.specs.Readers.{Out}
+use Rattle.hb_read_declarations.specs.declared.initial.Frame.{Frame}
+use Rattle.hb_read_declarations.specs.declared.initial.Frame.TheVariants.{InEach, InField}
+use Rattle.hb_read_declarations.specs.declared.initial.Now.TheVariants.{Field, Over}
+use Rattle.hb_read_declarations.specs.declared.initial.InitState.{InitState}
+use Rattle.hb_read_declarations.specs.Initials.{at, put, is_bar, is_close}
+use Rattle.hb_read_programs.specs.declared.frames.Step.{Step}
+use Rattle.hb_read_programs.specs.declared.frames.Step.TheVariants.{More, Close}
+
+-- the number of fields before the innermost one that is open
+abbrev pub field_of : List Frame → Option ℕ
+field_of [] = None
+field_of (InEach ∷ frames) = field_of frames
+field_of (InField count ∷ frames) = Some count
+
+-- what is open when each `each` within is at its end
+abbrev pub around : List Frame → List Frame
+around (InEach ∷ frames) = around frames
+around frames = frames
+
+-- what is open around the innermost field
+abbrev pub outside : List Frame → List Frame
+outside frames = rest_of (around frames)
+
+-- the nodes when each `each` within is at its end
+abbrev pub ended : List Frame → Out → Out
+ended (InEach ∷ frames) nodes = ended frames (put nodes node.InitEach)
+ended frames nodes = nodes
+
+abbrev pub step_at : Option ℕ → Token → Option Step
+step_at None t = None
+step_at (Some count) t = if is_bar t then Some (More count) else if is_close t then Some (Close count) else None
+
+-- what a token does behind a whole initialiser
+abbrev pub step_of : List Frame → Token → Option Step
+step_of frames t = step_at (field_of frames) t
+
+abbrev pub stepped : {S : Type 0} → Step → List Frame → Out → InitState S
+stepped (More count) frames nodes = at frames (Field (count + 1)) (put nodes node.InitField)
+stepped (Close count) frames nodes = at frames Over (put (put nodes node.InitField) (node.InitFields (count + 1)))

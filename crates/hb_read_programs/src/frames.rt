@@ -1,0 +1,98 @@
+ghost use Rattle.std.specs.Prelude.{◌≡◌, ◌++◌, reverse, OnOk};
+ghost use Rattle.hb_read_declarations.specs.Initials.{is_bar, is_close};
+ghost use Rattle.hb_read_programs.specs.Frames.{field_of, around, ended, outside, step_of, stepped};
+
+use crate::words;
+use crate::worths::{Mark, ThisWord};
+use hb_base::{List, Memory};
+use hb_read_declarations::{DeclNode, Frame, InitState, Now, Worth};
+use hb_stack::Stack;
+use hb_tokens::Token;
+
+/// What a token does behind a whole initialiser of a field, with so many fields before it.
+#[derive(Clone, Copy)]
+pub enum Step {
+    /// `|`: another field is to come.
+    More(usize),
+    /// `]`: the fields are at their end.
+    Close(usize),
+}
+
+/// The number of fields before the innermost one that is open.
+pub fn field_of(frames: &[Frame]) -> Option<usize>
+    ensures { result ≡ field_of (reverse frames.now) }
+{
+    let mut left = frames;
+    while let Some((top, below)) = left.split_last() {
+        match top {
+            Frame::InEach => left = below,
+            Frame::InField(count) => return Some(*count),
+        }
+    }
+    None
+}
+
+fn is_bar(token: Token) -> bool
+    ensures { result ≡ is_bar token }
+{
+    ThisWord::<words::Bar>::worth(token).is_some()
+}
+
+fn is_close(token: Token) -> bool
+    ensures { result ≡ is_close token }
+{
+    Mark::<b']'>::worth(token).is_some()
+}
+
+/// What the token does behind a whole initialiser.
+pub fn step_of(frames: &[Frame], token: Token) -> Option<Step>
+    ensures { result ≡ step_of (reverse frames.now) token }
+{
+    let Some(count) = field_of(frames) else {
+        return None;
+    };
+    if is_bar(token) {
+        Some(Step::More(count))
+    } else if is_close(token) {
+        Some(Step::Close(count))
+    } else {
+        None
+    }
+}
+
+/// Puts out each `each` that is at its end.
+pub fn end_each(frames: &mut Stack<Frame>, nodes: &mut List<DeclNode>) -> Result<(), Memory>
+    ensures frames { OnOk result (frames.new ≡ around frames.old) }
+    ensures nodes { OnOk result (nodes.new ≡ ended frames.old nodes.old) }
+{
+    while let Some(Frame::InEach) = frames.top() {
+        nodes.push(DeclNode::InitEach)?;
+        frames.pop();
+    }
+    Ok(())
+}
+
+/// The innermost field is at its end, and the step is made.
+pub fn make_step<S: Drop>(state: &mut InitState<S>, step: Step) -> Result<(), Memory>
+    ensures { OnOk result (state.new ≡ stepped step (outside state.old.frames) (ended state.old.frames state.old.nodes)) }
+{
+    end_each(&mut state.frames, &mut state.nodes)?;
+    state.frames.pop();
+    state.nodes.push(DeclNode::InitField)?;
+    match step {
+        Step::More(count) => {
+            let Some(count) = count.checked_add(1) else {
+                return Err(Memory);
+            };
+            state.last = Now::Field(count);
+        }
+        Step::Close(count) => {
+            let Some(count) = count.checked_add(1) else {
+                return Err(Memory);
+            };
+            state.nodes.push(DeclNode::InitFields(count))?;
+            state.last = Now::Over;
+        }
+    }
+    Ok(())
+}
