@@ -1,2 +1,3 @@
 pub mod SyntaxLaws
 pub mod ParsingLaws
+mod ReadingLaws

@@ -22,7 +22,7 @@ use Rattle.hb_depth.proofs.Derived.{program_written}
 use Rattle.hb_build_program.specs.ParsedProgram.{IsParsed}
 use Rattle.hb_build_program.proofs.Parsed.{derived_parsed}
 use Rattle.hb_build_program.proofs.ProgramLaws.{programs_alike}
-use Rattle.hb_parser.specs.Parsing.{FirstWrong, HasNodes, Parses, IsDeepForm, FirstFault, wrong_token, deep_form, Builds}
+use Rattle.hb_parser.specs.Parsing.{FirstWrong, HasNodes, Parses, IsDeepForm, FirstFault, wrong_token, deep_form, AreNodes, HasTree, Builds}
 use Rattle.hb_parser.proofs.SyntaxLaws.{nodes_alone, derives_right, wrong_alone}
 
 -- a list of tokens is one program at most
@@ -131,14 +131,28 @@ deep_builds f first e = record {
     is_deep p Memory first e = tt
     is_deep p (Refused refusal) first e = subst (IsDeepForm p) (sym e) (first, refl)
 
-pub shallow_builds : {nodes : List DeclNode} (program : Program) → ((p : Program) → IsWrittenProgram p → nodes ≡ program_nodes p → IsFirst None (too_deep p)) → ((p : Program) → IsParsed p → nodes ≡ program_nodes p → Some program ≡ Some p) → Builds nodes (Ok program)
-shallow_builds program first found = record {
-  built = λ ts p d are. (some_is (found p (derived_parsed d) are), first p (program_written d) are);
+some_is : {A : Type 0} {a b : A} {o : Option A} → o ≡ Some a → o ≡ Some b → a ≡ b
+some_is d e = cc
+
+pub tree_of : {nodes : List DeclNode} {program : Program} {o : Option Program} → o ≡ Some program → ((p : Program) → IsParsed p → nodes ≡ program_nodes p → o ≡ Some p) → HasTree nodes program
+tree_of is found ts p d are = some_is is (found p (derived_parsed d) are)
+
+pub tree_there : {nodes : List DeclNode} {o : Option Program} → (n : AreNodes nodes) → ((p : Program) → IsParsed p → nodes ≡ program_nodes p → o ≡ Some p) → o ≡ Some n.1.program
+tree_there n found = found n.1.program (derived_parsed n.1.derives) n.1.are
+
+pub shallow_builds : {nodes : List DeclNode} {result : Result Program Fault} → ((p : Program) → IsWrittenProgram p → nodes ≡ program_nodes p → IsFirst None (too_deep p)) → IfOk result (HasTree nodes) → IfErr result (λ f. f ≡ Memory) → Builds nodes result
+shallow_builds {result = Ok program} first tree memory = record {
+  built = λ ts p d are. (tree ts p d are, first p (program_written d) are);
   refused = λ ts p d are. tt;
 }
+shallow_builds {result = Err f} first tree memory = record {
+  built = λ ts p d are. tt;
+  refused = λ ts p d are. no_refusal (IsDeepForm p) f memory;
+}
   where
-    some_is : {A : Type 0} {a b : A} → Some a ≡ Some b → a ≡ b
-    some_is e = cc
+    no_refusal : (P : Refusal → Type 0) (f : Fault) → f ≡ Memory → IfRefused P f
+    no_refusal P (Refused refusal) e = cc
+    no_refusal P Memory e = tt
 
 pub memory_builds : {nodes : List DeclNode} → Builds nodes (Err Memory)
 memory_builds = record { built = λ ts p d are. tt; refused = λ ts p d are. tt }

@@ -48,6 +48,14 @@ pub record HasNodes (ts : List Token) (nodes : List DeclNode) : Type 0 where
   pub derives : Derives ts program
   pub are : nodes ≡ program_nodes program
 
+-- these are the nodes of some program that the grammar derives
+abbrev pub AreNodes : List DeclNode → Type 0
+AreNodes nodes = (ts : List Token) × HasNodes ts nodes
+
+-- whatever program is derived and has these nodes, it is this one
+abbrev pub HasTree : List DeclNode → Program → Type 0
+HasTree nodes answer = (ts : List Token) (program : Program) → Derives ts program → nodes ≡ program_nodes program → answer ≡ program
+
 -- a program that the grammar derives and that has these nodes is built, if no form in it is nested too deep; if one is, the
 -- refusal stands at the first such form
 pub record Builds (nodes : List DeclNode) (result : Result Program Fault) : Type 0 where

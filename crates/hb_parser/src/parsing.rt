@@ -4,7 +4,7 @@ ghost use Rattle.hb_base.specs.declared.refusal.Fault.TheVariants.{Memory as Out
 ghost use Rattle.hb_tokens.specs.Ends.{ends_once};
 ghost use Rattle.hb_tokens.specs.Faults.{IfRefused};
 ghost use Rattle.hb_tree.specs.declared.declaration.Program.{Program as Tree};
-ghost use Rattle.hb_parser.specs.Parsing.{FirstWrong, HasNodes, Parses, FirstFault, Builds};
+ghost use Rattle.hb_parser.specs.Parsing.{FirstWrong, HasNodes, AreNodes, Parses, FirstFault, HasTree, Builds};
 
 use hb_base::{Code, Fault, List, Memory, Place};
 use hb_build_program::build_program;
@@ -16,10 +16,7 @@ use hb_tree::Program;
 use std::alloc::Global;
 
 /// The nodes of the program that tokens are, or the place of the first wrong token.
-fn read_nodes(
-    alloc: Global,
-    tokens: &[Token],
-) -> Result<Result<List<DeclNode>, Place>, Memory>
+fn read_nodes(alloc: Global, tokens: &[Token]) -> Result<Result<List<DeclNode>, Place>, Memory>
     requires end { IsTrue (ends_once tokens.now) }
     ensures { IfOk result (λ answer. MatchResult answer (HasNodes tokens.now) (FirstWrong tokens.now)) }
 {
@@ -29,24 +26,32 @@ fn read_nodes(
             return Ok(Err(token.place));
         }
     }
-    match reader.finish()? {
-        Some(nodes) => Ok(Ok(nodes)),
-        // Behind its end a program is whole.
-        None => Err(Memory),
+    // Behind its end a program is whole.
+    let nodes = reader.finish()?.unwrap();
+    Ok(Ok(nodes))
+}
+
+/// The program that has these nodes.
+fn whole_program(alloc: Global, nodes: &[DeclNode]) -> Result<Program, Fault>
+    requires { AreNodes nodes.now }
+    ensures found { IfOk result (HasTree nodes.now) }
+    ensures memory { IfErr result (λ fault. fault ≡ OutOfMemory) }
+{
+    match build_program(alloc, nodes) {
+        Ok(program) => Ok(program.unwrap()),
+        Err(_memory) => Err(Fault::Memory),
     }
 }
 
 /// The program that has these nodes, or where a form in it is nested too deep.
 fn shallow_program(alloc: Global, nodes: &[DeclNode]) -> Result<Program, Fault>
+    requires { AreNodes nodes.now }
     ensures { Builds nodes.now result }
 {
-    if let Some(place) = first_too_deep(alloc, nodes)? {
-        return Err(refused(alloc, Code::E29, place, b"depth"));
-    }
-    match build_program(alloc, nodes)? {
-        Some(program) => Ok(program),
-        // The nodes of a program are put together.
-        None => Err(Fault::Memory),
+    match first_too_deep(alloc, nodes) {
+        Ok(Some(place)) => Err(refused(alloc, Code::E29, place, b"depth")),
+        Ok(None) => whole_program(alloc, nodes),
+        Err(_memory) => Err(Fault::Memory),
     }
 }
 
@@ -64,8 +69,9 @@ pub fn parse(alloc: Global, tokens: &Tokens) -> Result<Program, Fault>
     ensures only { (p : Tree) → Parses tokens.now.list p → MatchResult result (λ answer. answer ≡ p) (λ fault. fault ≡ OutOfMemory) }
     ensures refused { (refusal : ARefusal) → FirstFault tokens.now.list refusal → MatchResult result (λ answer. ⊥) (IfRefused (λ other. other ≡ refusal)) }
 {
-    match read_nodes(alloc, tokens.list.as_slice())? {
-        Ok(nodes) => shallow_program(alloc, nodes.as_slice()),
-        Err(place) => Err(refused(alloc, Code::E04, place, b"-")),
+    match read_nodes(alloc, tokens.list.as_slice()) {
+        Ok(Ok(nodes)) => shallow_program(alloc, nodes.as_slice()),
+        Ok(Err(place)) => Err(refused(alloc, Code::E04, place, b"-")),
+        Err(_memory) => Err(Fault::Memory),
     }
 }
