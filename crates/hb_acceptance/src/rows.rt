@@ -120,7 +120,10 @@ fn a_thousand_writes_are_put_and_one_more_is_refused(rt: HostRuntime) -> Result<
     assert!(rt; whole.text.len() > 8 * 1000);
     let refused = run(&rt, alloc, more.as_slice());
     assert_eq!(rt; refused.status, 1);
-    assert_eq!(rt; refused.text.as_slice(), b"refused E05 1:18068 form\n".as_slice());
+    assert_eq!(rt;
+        refused.text.as_slice(),
+        b"refused E05 1:18068 form\n".as_slice()
+    );
     Ok(())
 }
 

@@ -52,13 +52,19 @@ main :: (M Unit); {- a write -} main = (do { ((writePort tx) (B01000001)) ; }) }
 #[test]
 fn a_source_that_breaks_a_rule_of_the_language_is_refused_for_the_first(rt: HostRuntime) {
     let rows = [
-        (b"import Other".as_slice(), b"refused E05 1:1 import\n".as_slice()),
+        (
+            b"import Other".as_slice(),
+            b"refused E05 1:1 import\n".as_slice(),
+        ),
         (b"main = 12ab", b"refused E02 1:8 literal\n"),
         (b"{-", b"refused E02 1:1 comment\n"),
         (b"\x80", b"refused E01 1:1 80\n"),
         (b"main = (1]", b"refused E03 1:10 -\n"),
         (b"in", b"refused E03 1:1 -\n"),
-        (b"{ main :: M Unit; main = do { } }", b"refused E04 1:31 -\n"),
+        (
+            b"{ main :: M Unit; main = do { } }",
+            b"refused E04 1:31 -\n",
+        ),
         (b"struct E [ ]", b"refused E04 1:12 -\n"),
         (b"x :: Unsigned = 1", b"refused E04 1:15 -\n"),
     ];
@@ -90,18 +96,39 @@ fn a_program_of_another_form_is_refused_where_it_first_leaves_it(
         (b"x = 1\n", b"refused E05 3:1 form\n"),
         (b"main = writePort tx X41\n", b"refused E05 3:1 form\n"),
         (b"main = do\n  writePort tx a\n", b"refused E05 4:3 form\n"),
-        (b"main = do\n  writePort rx X41\n", b"refused E05 4:3 form\n"),
-        (b"main = do\n  writePort tx X041\n", b"refused E05 4:3 form\n"),
-        (b"main = do\n  let x = X41\n  writePort tx x\n", b"refused E05 4:7 form\n"),
-        (b"main = do { let { }; writePort tx X41 }\n", b"refused E05 3:1 form\n"),
-        (b"main = do\n  writePort tx X41\n  a <- readPort tx\n  writePort tx a\n", b"refused E05 5:3 form\n"),
-        (b"main = do\n  writePort tx X41\nx = 1\n", b"refused E05 5:1 form\n"),
+        (
+            b"main = do\n  writePort rx X41\n",
+            b"refused E05 4:3 form\n",
+        ),
+        (
+            b"main = do\n  writePort tx X041\n",
+            b"refused E05 4:3 form\n",
+        ),
+        (
+            b"main = do\n  let x = X41\n  writePort tx x\n",
+            b"refused E05 4:7 form\n",
+        ),
+        (
+            b"main = do { let { }; writePort tx X41 }\n",
+            b"refused E05 3:1 form\n",
+        ),
+        (
+            b"main = do\n  writePort tx X41\n  a <- readPort tx\n  writePort tx a\n",
+            b"refused E05 5:3 form\n",
+        ),
+        (
+            b"main = do\n  writePort tx X41\nx = 1\n",
+            b"refused E05 5:1 form\n",
+        ),
         (b"main = do\n  writePort tx X41\n", b""),
     ];
     for (rest, line) in rows {
         let text = after_head(&rt, rt.alloc(), rest)?;
         if line.is_empty() {
-            assert!(rt; text.as_slice().starts_with(b"w tx 41\nend done ".as_slice()));
+            assert!(rt;
+                text.as_slice()
+                    .starts_with(b"w tx 41\nend done ".as_slice())
+            );
         } else {
             assert_eq!(rt; text.as_slice(), line);
         }
