@@ -1,0 +1,5 @@
+pub mod Stretching
+pub mod TypesStretch
+pub mod PatternsStretch
+pub mod ExpressionsStretch
+pub mod DeclarationsStretch
