@@ -1,24 +1,13 @@
 -- The reader of programs with the readers of expressions and of initialisers in their places.
 use Rattle.hb_grammar.specs.Reading.{Reader}
-use Rattle.hb_read_patterns.specs.declared.reader.PatReader.{PatReader}
-use Rattle.hb_read_patterns.specs.Moves.{pat_start}
 use Rattle.hb_read_expressions.specs.declared.state.State.{State}
 use Rattle.hb_read_declarations.specs.declared.initial.InitState.{InitState}
-use Rattle.hb_read_declarations.specs.Initials.{init_reader}
 use Rattle.hb_read_declarations.specs.declared.either.Either.{Either}
 use Rattle.hb_read_declarations.specs.Combined.{either}
-use Rattle.hb_read_declarations.specs.Readers.{Out, PortState, ClassState, InstanceState, LineState, ProgramState, an_expr, port_reader, class_reader, instance_reader, line_reader, program_reader}
-
--- where the reader of patterns stands at first
-abbrev pub first_pats : PatReader
-first_pats = pat_start
-
--- the reader of initialisers
-abbrev pub whole_init : Reader (InitState State) Out
-whole_init = init_reader (an_expr first_pats)
+use Rattle.hb_read_declarations.specs.Readers.{Out, PortState, ClassState, InstanceState, LineState, ProgramState, port_reader, class_reader, instance_reader, line_reader, program_reader}
+use Rattle.hb_read_parts.specs.Within.{first_pats, whole_init}
 
 -- a port, a class, an instance, a signature or an equation
-
 abbrev pub OtherState : Type 0
 OtherState = Either PortState (Either ClassState (Either InstanceState LineState))
 

@@ -207,7 +207,7 @@ impl Reads for Area {
     type Value = List<DeclNode>;
 
     ghost use Rattle.hb_read_declarations.specs.Readers.{area_reader};
-    ghost use Rattle.hb_read_programs.specs.Whole.{whole_init};
+    ghost use Rattle.hb_read_parts.specs.Within.{whole_init};
 
     ghost reader = { area_reader whole_init };
 
@@ -340,7 +340,7 @@ impl Reads for Instance {
     type Value = List<DeclNode>;
 
     ghost use Rattle.hb_read_declarations.specs.Readers.{instance_reader};
-    ghost use Rattle.hb_read_programs.specs.Whole.{first_pats};
+    ghost use Rattle.hb_read_parts.specs.Within.{first_pats};
 
     ghost reader = { instance_reader first_pats };
 
@@ -385,7 +385,7 @@ impl Reads for Line {
     type Value = List<DeclNode>;
 
     ghost use Rattle.hb_read_declarations.specs.Readers.{line_reader};
-    ghost use Rattle.hb_read_programs.specs.Whole.{first_pats};
+    ghost use Rattle.hb_read_parts.specs.Within.{first_pats};
 
     ghost reader = { line_reader first_pats };
 
@@ -476,7 +476,7 @@ impl Reads for Top {
     type Value = List<DeclNode>;
 
     ghost use Rattle.hb_read_declarations.specs.Readers.{decl_reader};
-    ghost use Rattle.hb_read_programs.specs.Whole.{first_pats, whole_init};
+    ghost use Rattle.hb_read_parts.specs.Within.{first_pats, whole_init};
 
     ghost reader = { decl_reader first_pats whole_init };
 

@@ -1,23 +1,11 @@
 //! The reader of whole programs. It takes one token at a time, and puts out the nodes of the tree, the parts before the
-//! whole. The readers of the language are types that read as its grammar; each is put together from smaller ones.
+//! whole. The reader of each declaration is a type, put together as the grammar is from the readers of its parts.
 #![tactic(auto)]
 
 mod declarations;
-mod expressions;
-mod frames;
-mod initial;
-mod joins;
-mod lists;
-mod maps;
-mod nodes;
-mod parts;
 mod program;
 mod readers;
-mod several;
 #[cfg(test)]
 mod tests;
-mod types;
-mod words;
-mod worths;
 
 pub use program::ProgramReader;

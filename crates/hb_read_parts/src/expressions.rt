@@ -17,7 +17,7 @@ impl Reads for ExprOf {
     type Value = List<ExprNode>;
 
     ghost use Rattle.hb_read_expressions.specs.Moves.{expr_reader};
-    ghost use Rattle.hb_read_programs.specs.Whole.{first_pats};
+    ghost use Rattle.hb_read_parts.specs.Within.{first_pats};
 
     ghost reader = { expr_reader first_pats };
 
@@ -49,7 +49,7 @@ impl Reads for EquationOf {
     type Value = List<ExprNode>;
 
     ghost use Rattle.hb_read_expressions.specs.Moves.{equation_reader};
-    ghost use Rattle.hb_read_programs.specs.Whole.{first_pats};
+    ghost use Rattle.hb_read_parts.specs.Within.{first_pats};
 
     ghost reader = { equation_reader first_pats };
 

@@ -33,6 +33,7 @@ pub trait PlaceNode {
         ensures { result ≡ node place };
 }
 
+/// `DeclNode::DataCon`.
 pub struct DataCon;
 
 impl OneNode for DataCon {
@@ -43,6 +44,7 @@ impl OneNode for DataCon {
     }
 }
 
+/// `DeclNode::Fields`.
 pub struct Fields;
 
 impl OneNode for Fields {
@@ -53,6 +55,7 @@ impl OneNode for Fields {
     }
 }
 
+/// `DeclNode::BitFields`.
 pub struct BitFields;
 
 impl OneNode for BitFields {
@@ -63,6 +66,7 @@ impl OneNode for BitFields {
     }
 }
 
+/// `DeclNode::StructFields`.
 pub struct StructFields;
 
 impl OneNode for StructFields {
@@ -73,6 +77,7 @@ impl OneNode for StructFields {
     }
 }
 
+/// `DeclNode::Depend`.
 pub struct Depend;
 
 impl OneNode for Depend {
@@ -83,6 +88,7 @@ impl OneNode for Depend {
     }
 }
 
+/// `DeclNode::Init`.
 pub struct Init;
 
 impl OneNode for Init {
@@ -93,6 +99,7 @@ impl OneNode for Init {
     }
 }
 
+/// `DeclNode::Equation`.
 pub struct Equation;
 
 impl OneNode for Equation {
@@ -103,6 +110,7 @@ impl OneNode for Equation {
     }
 }
 
+/// `DeclNode::NoNumber`.
 pub struct NoNumber;
 
 impl OneNode for NoNumber {
@@ -113,6 +121,7 @@ impl OneNode for NoNumber {
     }
 }
 
+/// `DeclNode::NoInit`.
 pub struct NoInit;
 
 impl OneNode for NoInit {
@@ -123,6 +132,7 @@ impl OneNode for NoInit {
     }
 }
 
+/// `DeclNode::Names`.
 pub struct Names;
 
 impl CountNode for Names {
@@ -133,6 +143,7 @@ impl CountNode for Names {
     }
 }
 
+/// `DeclNode::Types`.
 pub struct Types;
 
 impl CountNode for Types {
@@ -143,6 +154,7 @@ impl CountNode for Types {
     }
 }
 
+/// `DeclNode::Sigs`.
 pub struct Sigs;
 
 impl CountNode for Sigs {
@@ -153,6 +165,7 @@ impl CountNode for Sigs {
     }
 }
 
+/// `DeclNode::Equations`.
 pub struct Equations;
 
 impl CountNode for Equations {
@@ -163,6 +176,7 @@ impl CountNode for Equations {
     }
 }
 
+/// `DeclNode::DataCons`.
 pub struct DataCons;
 
 impl CountNode for DataCons {
@@ -173,6 +187,7 @@ impl CountNode for DataCons {
     }
 }
 
+/// `DeclNode::BitCon`.
 pub struct BitCon;
 
 impl CountNode for BitCon {
@@ -183,6 +198,7 @@ impl CountNode for BitCon {
     }
 }
 
+/// `DeclNode::BitCons`.
 pub struct BitCons;
 
 impl CountNode for BitCons {
@@ -193,6 +209,7 @@ impl CountNode for BitCons {
     }
 }
 
+/// `DeclNode::StructParts`.
 pub struct StructParts;
 
 impl CountNode for StructParts {
@@ -203,6 +220,7 @@ impl CountNode for StructParts {
     }
 }
 
+/// `DeclNode::Depends`.
 pub struct Depends;
 
 impl CountNode for Depends {
@@ -213,6 +231,7 @@ impl CountNode for Depends {
     }
 }
 
+/// `DeclNode::Program`.
 pub struct Program;
 
 impl CountNode for Program {
@@ -223,6 +242,7 @@ impl CountNode for Program {
     }
 }
 
+/// `DeclNode::Context`.
 pub struct Context;
 
 impl CountNode for Context {
@@ -233,6 +253,7 @@ impl CountNode for Context {
     }
 }
 
+/// `DeclNode::Data`.
 pub struct Data;
 
 impl PlaceNode for Data {
@@ -243,6 +264,7 @@ impl PlaceNode for Data {
     }
 }
 
+/// `DeclNode::Bitdata`.
 pub struct Bitdata;
 
 impl PlaceNode for Bitdata {
@@ -253,6 +275,7 @@ impl PlaceNode for Bitdata {
     }
 }
 
+/// `DeclNode::Struct`.
 pub struct Struct;
 
 impl PlaceNode for Struct {
@@ -263,6 +286,7 @@ impl PlaceNode for Struct {
     }
 }
 
+/// `DeclNode::Area`.
 pub struct Area;
 
 impl PlaceNode for Area {
@@ -273,6 +297,7 @@ impl PlaceNode for Area {
     }
 }
 
+/// `DeclNode::Class`.
 pub struct Class;
 
 impl PlaceNode for Class {
@@ -283,6 +308,7 @@ impl PlaceNode for Class {
     }
 }
 
+/// `DeclNode::Instance`.
 pub struct Instance;
 
 impl PlaceNode for Instance {

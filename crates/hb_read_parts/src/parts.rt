@@ -471,7 +471,7 @@ impl Reads for Start {
     type Value = List<DeclNode>;
 
     ghost use Rattle.hb_read_declarations.specs.Readers.{start_reader};
-    ghost use Rattle.hb_read_programs.specs.Whole.{whole_init};
+    ghost use Rattle.hb_read_parts.specs.Within.{whole_init};
 
     ghost reader = { start_reader whole_init };
 

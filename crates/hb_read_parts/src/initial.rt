@@ -10,11 +10,11 @@ ghost use Rattle.hb_read_declarations.specs.declared.initial.Now.TheVariants.{Wa
 ghost use Rattle.hb_read_declarations.specs.Initials.{at, is_each, is_fields, next, begin, in_cell, put_cell, settled, settled_cell, init_reader};
 
 use crate::frames::{end_each, field_of, make_step, step_of};
-use crate::lists::put_behind;
-use crate::words;
-use crate::worths::{Mark, ThisWord, Var};
 use hb_base::{List, Memory, Place};
 use hb_read_declarations::{DeclNode, Frame, InitState, Now, Reads, Worth};
+use hb_read_pieces::lists::put_behind;
+use hb_read_pieces::words;
+use hb_read_pieces::worths::{Mark, ThisWord, Var};
 use hb_stack::Stack;
 use hb_tokens::Token;
 use hb_tree::NameAt;

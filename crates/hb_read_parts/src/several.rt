@@ -3,9 +3,9 @@ ghost use Rattle.hb_grammar.specs.Reading.{Reader};
 ghost use Rattle.hb_read_types.specs.Taking.{Took};
 
 use crate::readers;
-use crate::words::OneWord;
 use hb_base::{List, Memory, Place};
 use hb_read_declarations::{Counted, DeclNode, Either, Reads, Star, Then, Worth};
+use hb_read_pieces::words::OneWord;
 use hb_tokens::Token;
 use std::alloc::Global;
 use std::marker::PhantomData;

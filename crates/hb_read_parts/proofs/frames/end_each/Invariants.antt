@@ -1,6 +1,6 @@
 use Rattle.std.proofs.Common.{◌≡◌, length}
-use Rattle.hb_read_programs.specs.Frames.{around, ended}
-use Rattle.hb_read_programs.proofs.frames.end_each.Given as goal
+use Rattle.hb_read_parts.specs.Frames.{around, ended}
+use Rattle.hb_read_parts.proofs.frames.end_each.Given as goal
 
 abbrev pub invariant-loop-nodes : goal.invariant-loop-nodes
 invariant-loop-nodes l = (around l.frames ≡ around l.initial.frames) × (ended l.frames l.nodes ≡ ended l.initial.frames l.initial.nodes)

@@ -9,9 +9,9 @@ use Rattle.hb_read_declarations.specs.declared.initial.Frame.TheVariants.{InEach
 use Rattle.hb_read_declarations.specs.declared.initial.Now.TheVariants.{Field, Over}
 use Rattle.hb_read_declarations.specs.declared.initial.InitState.{InitState}
 use Rattle.hb_read_declarations.specs.Initials.{at, put, is_bar, is_close, next, settled}
-use Rattle.hb_read_programs.specs.declared.frames.Step.{Step}
-use Rattle.hb_read_programs.specs.declared.frames.Step.TheVariants.{More, Close}
-use Rattle.hb_read_programs.specs.Frames.{field_of, ended, outside, step_of, stepped}
+use Rattle.hb_read_parts.specs.declared.frames.Step.{Step}
+use Rattle.hb_read_parts.specs.declared.frames.Step.TheVariants.{More, Close}
+use Rattle.hb_read_parts.specs.Frames.{field_of, ended, outside, step_of, stepped}
 
 turns : {S : Type 0} (b c : Bool) (count : ℕ) (frames : List Frame) (nodes : Out) → ◌≡◌ {A = Option (InitState S)} (cond b (Some (at frames (Field (count + 1)) (put nodes node.InitField))) (cond c (Some (at frames Over (put (put nodes node.InitField) (node.InitFields (count + 1))))) None)) (mapped (λ s. stepped s frames nodes) (cond b (Some (More count)) (cond c (Some (Close count)) None)))
 turns true c count frames nodes = refl

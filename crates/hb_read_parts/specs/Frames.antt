@@ -9,8 +9,8 @@ use Rattle.hb_read_declarations.specs.declared.initial.Frame.TheVariants.{InEach
 use Rattle.hb_read_declarations.specs.declared.initial.Now.TheVariants.{Field, Over}
 use Rattle.hb_read_declarations.specs.declared.initial.InitState.{InitState}
 use Rattle.hb_read_declarations.specs.Initials.{at, put, is_bar, is_close}
-use Rattle.hb_read_programs.specs.declared.frames.Step.{Step}
-use Rattle.hb_read_programs.specs.declared.frames.Step.TheVariants.{More, Close}
+use Rattle.hb_read_parts.specs.declared.frames.Step.{Step}
+use Rattle.hb_read_parts.specs.declared.frames.Step.TheVariants.{More, Close}
 
 -- the number of fields before the innermost one that is open
 abbrev pub field_of : List Frame → Option ℕ

@@ -1,11 +1,11 @@
 ghost use Rattle.std.specs.Prelude.{◌≡◌, ◌++◌, reverse, OnOk};
 ghost use Rattle.hb_read_declarations.specs.Initials.{is_bar, is_close};
-ghost use Rattle.hb_read_programs.specs.Frames.{field_of, around, ended, outside, step_of, stepped};
+ghost use Rattle.hb_read_parts.specs.Frames.{field_of, around, ended, outside, step_of, stepped};
 
-use crate::words;
-use crate::worths::{Mark, ThisWord};
 use hb_base::{List, Memory};
 use hb_read_declarations::{DeclNode, Frame, InitState, Now, Worth};
+use hb_read_pieces::words;
+use hb_read_pieces::worths::{Mark, ThisWord};
 use hb_stack::Stack;
 use hb_tokens::Token;
 
