@@ -1,5 +1,6 @@
 -- What an exact reader of programs tells of a list of tokens: the program, or the first wrong token.
 use Rattle.std.proofs.Common.{◌≡◌, Bool, true, false, List, [], ◌∷◌, ◌++◌, Option, Some, None, is_some, refl, sym, ap, subst, ◌∙◌}
+use Rattle.std.proofs.lemmas.List.{append-nil, append_assoc}
 use Rattle.std.specs.Prelude.{◌&&◌, not}
 use Rattle.hb_base.specs.declared.place.Place.{Place}
 use Rattle.hb_tokens.specs.declared.token.Token.{Token}
@@ -21,14 +22,6 @@ use Rattle.hb_parser.specs.Parsing.{CanGoOn, FirstWrong, HasNodes}
 abbrev pub ReadsPrograms : {S : Type 0} → Reader S (List DeclNode) → Type 0
 ReadsPrograms reader = Exact reader (Made ProgramRead program_nodes)
 
-nothing_after : {A : Type 0} (xs : List A) → xs ++ [] ≡ xs
-nothing_after [] = refl
-nothing_after (x ∷ xs) = ap (λ rest. x ∷ rest) (nothing_after xs)
-
-one_before : {A : Type 0} (xs : List A) (y : A) (zs : List A) → (xs ++ y ∷ []) ++ zs ≡ xs ++ y ∷ zs
-one_before [] y zs = refl
-one_before (x ∷ xs) y zs = ap (λ rest. x ∷ rest) (one_before xs y zs)
-
 not_nothing : {A : Type 0} (xs : List A) (y : A) (zs : List A) → [] ≡ xs ++ y ∷ zs → ⊥
 not_nothing [] y zs e = cc
 not_nothing (x ∷ xs) y zs e = cc
@@ -37,7 +30,7 @@ not_nothing (x ∷ xs) y zs e = cc
 pub whole_read : {S : Type 0} {reader : Reader S (List DeclNode)} {s : S} {ts : List Token} {nodes : List DeclNode} → ReadsPrograms reader → LeadsTo reader reader.start ts s → reader.done s ≡ Some nodes → HasNodes ts nodes
 whole_read {reader} {ts} {nodes} exact l d =
     let run : Runs reader reader.start (ts ++ []) nodes [] = leads_runs l (stop d) in
-    let made = exact.sound (subst (λ xs. Runs reader reader.start xs nodes []) (nothing_after ts) run) in
+    let made = exact.sound (subst (λ xs. Runs reader reader.start xs nodes []) (append-nil ts) run) in
     record { program = made.thing; derives = derived made.read; are = made.is }
 
 derives_read : {ts : List Token} {p : Program} → Derives ts p → Made ProgramRead program_nodes ts (program_nodes p) []
@@ -53,7 +46,7 @@ refused_wrong {reader} {before} t after exact l e =
       after = after;
       tokens = refl;
       good = record { rest = live.0; program = live.2.thing; derives = derived live.2.read };
-      wrong = λ can. no_program can (subst (λ ts. Derives ts can.program) (one_before before t can.rest) can.derives);
+      wrong = λ can. no_program can (subst (λ ts. Derives ts can.program) (append_assoc before (t ∷ []) can.rest) can.derives);
       here = refl;
     }
   where
@@ -91,14 +84,10 @@ all_taken ends (taken {t} m (taken {t = u} {ts} n l)) e = all_taken ends (taken 
 -- The first wrong token is one, and there is none in a program.
 
 begins_less : (before : List Token) (rest : List Token) → CanGoOn (before ++ rest) → CanGoOn before
-begins_less before rest can = record { rest = rest ++ can.rest; program = can.program; derives = subst (λ ts. Derives ts can.program) (assoc before rest can.rest) can.derives }
-  where
-    assoc : {A : Type 0} (xs ys zs : List A) → (xs ++ ys) ++ zs ≡ xs ++ (ys ++ zs)
-    assoc [] ys zs = refl
-    assoc (x ∷ xs) ys zs = ap (λ rest. x ∷ rest) (assoc xs ys zs)
+begins_less before rest can = record { rest = rest ++ can.rest; program = can.program; derives = subst (λ ts. Derives ts can.program) (append_assoc before rest can.rest) can.derives }
 
 pub derives_right : {ts : List Token} {p : Program} {place : Place} → Derives ts p → FirstWrong ts place → ⊥
-derives_right {p} d w = w.wrong (record { rest = w.after; program = p; derives = subst (λ ts. Derives ts p) (w.tokens ∙ sym (one_before w.before w.token w.after)) d })
+derives_right {p} d w = w.wrong (record { rest = w.after; program = p; derives = subst (λ ts. Derives ts p) (w.tokens ∙ sym (append_assoc w.before (w.token ∷ []) w.after)) d })
 
 -- two ways to split a list at an item: at the same place, or one is before the other
 data Splits {A : Type 0} (xs : List A) (x : A) (ys : List A) (y : A) : Type 0 where
@@ -127,7 +116,7 @@ splits (a ∷ xs) x us [] y vs e = second_before xs (ap (λ z. z ∷ xs) (heads 
 splits (a ∷ xs) x us (b ∷ ys) y vs e = longer (heads e) (splits xs x us ys y vs (tails e))
 
 not_before : (before : List Token) (t : Token) (rest : List Token) {ts : List Token} → ts ≡ before ++ t ∷ rest → CanGoOn ts → CanGoOn (before ++ t ∷ [])
-not_before before t rest e can = begins_less (before ++ t ∷ []) rest (subst CanGoOn (e ∙ sym (one_before before t rest)) can)
+not_before before t rest e can = begins_less (before ++ t ∷ []) rest (subst CanGoOn (e ∙ sym (append_assoc before (t ∷ []) rest)) can)
 
 pub wrong_alone : {ts : List Token} {p q : Place} → FirstWrong ts p → FirstWrong ts q → p ≡ q
 wrong_alone {p} {q} v w = by_splits (splits v.before v.token v.after w.before w.token w.after (sym v.tokens ∙ w.tokens))
