@@ -4,3 +4,4 @@ pub mod Ports
 pub mod Inputs
 pub mod Names
 pub mod Fixed
+pub mod Faults

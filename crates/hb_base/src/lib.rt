@@ -20,7 +20,7 @@ pub use name::Name;
 pub use names::Names;
 pub use place::Place;
 pub use port::{Dir, Port};
-pub use refusal::{Code, Fault, Refusal};
+pub use refusal::{Code, Detail, Fault, Refusal, refused};
 pub use script::{Script, ScriptLine};
 pub use step::{Step, Stop};
 pub use text::Text;

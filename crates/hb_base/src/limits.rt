@@ -67,4 +67,4 @@ pub const SCRIPT_BYTES: u32 = 1_048_576;
 pub const CODE_WORDS: u32 = 134_201_344;
 
 /// Bytes of a refusal's detail.
-pub const DETAIL_BYTES: u32 = 200;
+pub const DETAIL_BYTES: usize = 200;

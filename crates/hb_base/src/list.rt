@@ -35,6 +35,13 @@ impl<T> List<T> {
         self.items.as_slice()
     }
 
+    /// The items in their order, handed over. Takes no memory.
+    pub fn into_items(self) -> Vec<T>
+        ensures { result.items ≡ self }
+    {
+        self.items
+    }
+
     /// The number of items. Takes no memory.
     pub fn len(&self) -> usize
         ensures { result ≡ length self.now }

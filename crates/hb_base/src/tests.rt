@@ -1,4 +1,4 @@
-use crate::{Memory, Name, Names, fixed};
+use crate::{Code, Detail, Fault, List, Memory, Name, Names, Place, fixed, refused};
 use std::test::Fail;
 
 /// Whether the name has this text.
@@ -73,5 +73,41 @@ fn a_known_text_keeps_its_name_and_a_new_one_gets_the_next(rt: HostRuntime) -> R
     assert_eq!(rt; names.intern(b"uart")?, Name(71));
     assert_eq!(rt; names.count(), 73);
     assert!(rt; names.text(Name(73)).is_none());
+    Ok(())
+}
+
+#[test]
+fn a_detail_keeps_its_first_200_bytes(rt: HostRuntime) -> Result<(), Fail> {
+    let text = [b'a'; 201];
+    let detail = Detail::of(rt.alloc(), &text)?;
+    assert_eq!(rt; detail.as_slice().len(), 200);
+    let whole = Detail::of(rt.alloc(), &text[..200])?;
+    assert_eq!(rt; whole.as_slice().len(), 200);
+    let short = Detail::of(rt.alloc(), b"align")?;
+    assert!(rt; short.as_slice() == b"align".as_slice());
+    Ok(())
+}
+
+#[test]
+fn a_refusal_has_its_parts(rt: HostRuntime) -> Result<(), Fail> {
+    let place = Place { line: 3, col: 7 };
+    match refused(rt.alloc(), Code::E18, place, b"stride") {
+        Fault::Refused(refusal) => {
+            assert_eq!(rt; refusal.code, Code::E18);
+            assert_eq!(rt; refusal.place, place);
+            assert!(rt; refusal.detail.as_slice() == b"stride".as_slice());
+        },
+        Fault::Memory => assert!(rt; false),
+    }
+    Ok(())
+}
+
+#[test]
+fn a_list_hands_over_its_items(rt: HostRuntime) -> Result<(), Fail> {
+    let mut list: List<u32> = List::of(Vec::new(rt.alloc()));
+    list.push(7)?;
+    list.push(9)?;
+    let items = list.into_items();
+    assert!(rt; items.as_slice() == [7, 9].as_slice());
     Ok(())
 }

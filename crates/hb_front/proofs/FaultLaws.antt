@@ -3,7 +3,7 @@ use Rattle.std.proofs.Common.{ℕ, List}
 use Rattle.hb_base.specs.declared.refusal.Fault.{Fault}
 use Rattle.hb_base.specs.declared.refusal.Fault.TheVariants.{Refused, Memory}
 use Rattle.hb_tokens.specs.declared.token.Token.{Token}
-use Rattle.hb_tokens.specs.Faults.{IfRefused}
+use Rattle.hb_base.specs.Faults.{IfRefused}
 use Rattle.hb_lex.specs.Tokens as lexical
 use Rattle.hb_layout.specs.Laid as layout
 use Rattle.hb_parser.specs.Parsing as parsing

@@ -3,7 +3,7 @@ ghost use Rattle.hb_base.specs.declared.refusal.Refusal.{Refusal as ARefusal};
 ghost use Rattle.hb_base.specs.declared.refusal.Fault.TheVariants.{Memory as OutOfMemory};
 ghost use Rattle.hb_tokens.specs.Ends.{ends_once};
 ghost use Rattle.hb_tokens.specs.declared.token.Token.{Token as AToken};
-ghost use Rattle.hb_tokens.specs.Faults.{IfRefused};
+ghost use Rattle.hb_base.specs.Faults.{IfRefused};
 ghost use Rattle.hb_front.specs.Front.{SpellsTokens, LaysOut, LayingFault};
 
 use hb_base::{Fault, Names};

@@ -15,7 +15,7 @@ use Rattle.hb_layout.specs.Rules.{Move}
 use Rattle.hb_layout.specs.Laid.{Layout, given, unclosed, first_of, preceded, is_deep, deep_at, is_first, move_of, laid_after, laid, laid_out, inserted, token_at}
 use Rattle.hb_layout.specs.Drafts.{lays}
 use Rattle.hb_tokens.specs.Ends.{ends_once, is_end_kind}
-use Rattle.hb_tokens.specs.Faults.{IfRefused}
+use Rattle.hb_base.specs.Faults.{IfRefused}
 use Rattle.hb_layout.proofs.CountLaws.{implicits, owes, move_weight}
 
 -- what is given for one token and for those after it

@@ -4,13 +4,13 @@ ghost use Rattle.hb_base.specs.declared.refusal.Fault.TheVariants.{Memory as Out
 ghost use Rattle.hb_tokens.specs.declared.token.Token.{Token as AToken};
 ghost use Rattle.hb_tokens.specs.Ends.{ends_once};
 ghost use Rattle.hb_layout.specs.Laid.{laid_out, Laid, FirstFault};
-ghost use Rattle.hb_tokens.specs.Faults.{IfRefused};
+ghost use Rattle.hb_base.specs.Faults.{IfRefused};
 ghost use Rattle.hb_layout.specs.Outcomes.{IsLaidOut};
 
 use crate::profile::first_left_out;
 use crate::progress::Progress;
-use hb_base::{Code, Fault, List, Memory, Place};
-use hb_tokens::{Token, Tokens, refused};
+use hb_base::{Code, Fault, List, Memory, Place, refused};
+use hb_tokens::{Token, Tokens};
 use std::alloc::Global;
 
 /// What the rules of layout give of a list of tokens.

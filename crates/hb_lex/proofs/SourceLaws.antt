@@ -23,7 +23,7 @@ use Rattle.hb_lex.specs.Bytes.{is_allowed, run, place_after, first_place}
 use Rattle.hb_lex.specs.Tokens.{Lexeme, lexeme, Answer, Found as FoundAnswer, Stops, Reads, ended, Spells, FirstFault, bad_byte, no_token, hex_digit, hex_byte}
 use Rattle.hb_lex.specs.Numbering.{shape_of, EndsAt, texts_of, AreNumbered, Found, Extends}
 use Rattle.hb_lex.specs.Steps.{Took, IsStop}
-use Rattle.hb_tokens.specs.Faults.{IfRefused}
+use Rattle.hb_base.specs.Faults.{IfRefused}
 use Rattle.hb_lex.specs.Answers.{IsNotRefused, IsThisRefusal}
 use Rattle.hb_lex.proofs.LiteralLaws.{either, and_true, run_on, run_off, run_none}
 use Rattle.hb_lex.proofs.TokensLaws.{one_answer, numbered_append, extends_texts, append_nil, texts_of_append, extends_all, took_more}

@@ -18,7 +18,7 @@ use Rattle.hb_lex.specs.Pieces.{piece_at}
 use Rattle.hb_lex.specs.Tokens.{Inside, Lexeme, lexeme, takes_dot, Answer, Found, Stops, after_lexemes, detail_of, Reads, ended, skipped, commented, open_comment, token, broken}
 use Rattle.hb_lex.specs.Numbering.{name_of, name_text, texts_of, IsNumbered, AreNumbered, Extends}
 use Rattle.hb_lex.specs.Steps.{Took, IsStop}
-use Rattle.hb_tokens.specs.Faults.{IfRefused}
+use Rattle.hb_base.specs.Faults.{IfRefused}
 use Rattle.hb_base.specs.declared.refusal.Code.TheVariants.{E02}
 use Rattle.hb_base.specs.declared.refusal.Fault.{Fault}
 use Rattle.hb_base.specs.declared.refusal.Fault.TheVariants.{Refused, Memory}

@@ -4,7 +4,7 @@ ghost use Rattle.hb_lex.specs.Bytes.{place_after};
 ghost use Rattle.hb_lex.specs.Pieces.{piece_at};
 ghost use Rattle.hb_lex.specs.Tokens.{takes_dot, detail_of, lexeme};
 ghost use Rattle.hb_lex.specs.Numbering.{shape_of, name_of, name_text, IsNumbered, Extends};
-ghost use Rattle.hb_tokens.specs.Faults.{IfRefused};
+ghost use Rattle.hb_base.specs.Faults.{IfRefused};
 ghost use Rattle.hb_lex.specs.declared.piece.Piece.TheVariants.{Comment};
 ghost use Rattle.hb_lex.specs.Steps.{Took, IsStop};
 
@@ -12,8 +12,8 @@ use crate::bytes::{after, before, place_after};
 use crate::comment::inside;
 use crate::piece::{Piece, Shape, Wrong};
 use crate::scan::piece_at;
-use hb_base::{Code, Fault, Memory, Names, Place};
-use hb_tokens::{Token, TokenKind, refused};
+use hb_base::{Code, Fault, Memory, Names, Place, refused};
+use hb_tokens::{Token, TokenKind};
 use std::alloc::Global;
 
 /// The tokens read so far, and where the next byte stands. A dot right there may be a selection where `glued` says

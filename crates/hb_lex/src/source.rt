@@ -6,13 +6,13 @@ ghost use Rattle.hb_tokens.specs.Ends.{ends_once};
 ghost use Rattle.hb_lex.specs.Bytes.{is_allowed, place_after, first_place};
 ghost use Rattle.hb_lex.specs.Tokens.{Lexeme, Spells, FirstFault, hex_digit};
 ghost use Rattle.hb_lex.specs.Numbering.{Found, texts_of, EndsAt, Extends};
-ghost use Rattle.hb_tokens.specs.Faults.{IfRefused};
+ghost use Rattle.hb_base.specs.Faults.{IfRefused};
 ghost use Rattle.hb_lex.specs.Answers.{IsNotRefused, IsThisRefusal};
 
 use crate::bytes::{Class, after, before, byte_at, place_after, run};
 use crate::lexer::Lexer;
-use hb_base::{Code, Fault, Names, Place};
-use hb_tokens::{Token, TokenKind, Tokens, refused};
+use hb_base::{Code, Fault, Names, Place, refused};
+use hb_tokens::{Token, TokenKind, Tokens};
 use std::alloc::Global;
 
 /// Where the first byte of a source stands.

@@ -9,7 +9,7 @@ use Rattle.hb_base.specs.declared.refusal.Code.TheVariants.{E04, E29}
 use Rattle.hb_base.specs.declared.refusal.Fault.{Fault}
 use Rattle.hb_base.specs.declared.refusal.Fault.TheVariants.{Refused, Memory}
 use Rattle.hb_tokens.specs.declared.token.Token.{Token}
-use Rattle.hb_tokens.specs.Faults.{IfRefused}
+use Rattle.hb_base.specs.Faults.{IfRefused}
 use Rattle.hb_tree.specs.declared.declaration.Program.{Program}
 use Rattle.hb_grammar.specs.Declarations.{Derives}
 use Rattle.hb_read_patterns.specs.Moves.{pat_start}

@@ -3,7 +3,7 @@ use Rattle.std.specs.Prelude.{◌≡◌, List, [], ◌∷◌, ◌++◌, codes, S
 use Rattle.hb_base.specs.declared.place.Place.{Place}
 use Rattle.hb_base.specs.declared.refusal.Refusal.{Refusal}
 use Rattle.hb_base.specs.declared.refusal.Fault.{Fault}
-use Rattle.hb_tokens.specs.Faults.{IfRefused}
+use Rattle.hb_base.specs.Faults.{IfRefused}
 use Rattle.hb_base.specs.declared.refusal.Code.TheVariants.{E04, E29}
 use Rattle.hb_tokens.specs.declared.token.Token.{Token}
 use Rattle.hb_tree.specs.declared.declaration.Program.{Program}

@@ -2,16 +2,16 @@ ghost use Rattle.std.specs.Prelude.{◌≡◌, List, IfOk, IfErr, IsTrue, MatchR
 ghost use Rattle.hb_base.specs.declared.refusal.Refusal.{Refusal as ARefusal};
 ghost use Rattle.hb_base.specs.declared.refusal.Fault.TheVariants.{Memory as OutOfMemory};
 ghost use Rattle.hb_tokens.specs.Ends.{ends_once};
-ghost use Rattle.hb_tokens.specs.Faults.{IfRefused};
+ghost use Rattle.hb_base.specs.Faults.{IfRefused};
 ghost use Rattle.hb_tree.specs.declared.declaration.Program.{Program as Tree};
 ghost use Rattle.hb_parser.specs.Parsing.{FirstWrong, HasNodes, AreNodes, Parses, FirstFault, HasTree, Builds};
 
-use hb_base::{Code, Fault, List, Memory, Place};
+use hb_base::{Code, Fault, List, Memory, Place, refused};
 use hb_build_program::build_program;
 use hb_depth::first_too_deep;
 use hb_read_declarations::DeclNode;
 use hb_read_programs::ProgramReader;
-use hb_tokens::{Token, Tokens, refused};
+use hb_tokens::{Token, Tokens};
 use hb_tree::Program;
 use std::alloc::Global;
 

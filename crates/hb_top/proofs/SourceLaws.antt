@@ -7,7 +7,7 @@ use Rattle.hb_base.specs.declared.refusal.Code.TheVariants.{E05, E30}
 use Rattle.hb_base.specs.declared.refusal.Refusal.{Refusal}
 use Rattle.hb_base.specs.declared.refusal.Fault.{Fault}
 use Rattle.hb_base.specs.declared.refusal.Fault.TheVariants as fault
-use Rattle.hb_tokens.specs.Faults.{IfRefused}
+use Rattle.hb_base.specs.Faults.{IfRefused}
 use Rattle.hb_tree.specs.declared.declaration.Program.{Program}
 use Rattle.hb_lex.specs.Bytes.{first_place, place_after}
 use Rattle.hb_front.specs.Front.{SpellsProgram, FirstFault}

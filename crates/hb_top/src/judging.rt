@@ -8,14 +8,13 @@ ghost use Rattle.hb_top.specs.Steps.{failure_of, JudgesForm, JudgesSource, Judge
 
 use crate::failure::{Failure, NoImage};
 use hb_base::limits::SOURCE_BYTES;
-use hb_base::{Code, Fault, List as Items, Names, Place, Port, Script};
+use hb_base::{Code, Fault, List as Items, Names, Place, Port, Script, refused};
 use hb_compile::compile;
 use hb_front::read_program;
 use hb_image::{Image, ImageError};
 use hb_lex::text_end;
 use hb_script::ScriptError;
 use hb_second::{FormError, Source, read_source};
-use hb_tokens::refused;
 use hb_tree::Program;
 use std::alloc::Global;
 

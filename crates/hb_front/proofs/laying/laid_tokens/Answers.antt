@@ -1,5 +1,5 @@
 use Rattle.std.proofs.Common.{rules}
-use Rattle.hb_tokens.specs.Faults.{IfRefused}
+use Rattle.hb_base.specs.Faults.{IfRefused}
 use Rattle.hb_front.specs.Front.{LayingFault}
 use Rattle.hb_front.proofs.FaultLaws.{layout_fault}
 use Rattle.hb_front.proofs.OnceLaws.{laid_is_spelled, laid_only, laid_answer}

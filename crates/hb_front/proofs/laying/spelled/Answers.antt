@@ -1,5 +1,5 @@
 use Rattle.std.proofs.Common.{rules}
-use Rattle.hb_tokens.specs.Faults.{IfRefused}
+use Rattle.hb_base.specs.Faults.{IfRefused}
 use Rattle.hb_front.specs.Front.{LayingFault}
 use Rattle.hb_front.proofs.FaultLaws.{text_fault}
 use Rattle.hb_front.proofs.OnceLaws.{spelled_by, spelled_once}

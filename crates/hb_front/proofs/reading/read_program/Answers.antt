@@ -1,5 +1,5 @@
 use Rattle.std.proofs.Common.{rules}
-use Rattle.hb_tokens.specs.Faults.{IfRefused}
+use Rattle.hb_base.specs.Faults.{IfRefused}
 use Rattle.hb_front.specs.Front.{FirstFault}
 use Rattle.hb_front.proofs.FaultLaws.{laying_fault, grammar_fault}
 use Rattle.hb_front.proofs.OnceLaws.{parsed_is_laid, parsed_only, parsed_answer}

@@ -1,7 +1,7 @@
 use Rattle.std.proofs.Common.{◌<◌, false, [], sym, subst, ◌∙◌, arith, rules}
 use Rattle.hb_lex.specs.Bytes.{first_place}
 use Rattle.hb_lex.specs.Tokens.{FirstFault}
-use Rattle.hb_tokens.specs.Faults.{IfRefused}
+use Rattle.hb_base.specs.Faults.{IfRefused}
 use Rattle.hb_lex.specs.Steps.{Took}
 use Rattle.hb_lex.proofs.TokensLaws.{took_none}
 use Rattle.hb_lex.proofs.SourceLaws.{few_all, ends_all, end_at, not_refused, this_refusal, took_then, took_extends, extends_more, found_all, table_all, spelled_no_fault, fault_after, within_more}

@@ -1,6 +1,6 @@
 use Rattle.std.proofs.Common.{rules, subst, ℕ, List}
 use Rattle.hb_base.specs.declared.refusal.Fault.TheVariants as fault
-use Rattle.hb_tokens.specs.Faults.{IfRefused}
+use Rattle.hb_base.specs.Faults.{IfRefused}
 use Rattle.hb_front.specs.Front.{SpellsProgram, FirstFault}
 use Rattle.hb_top.proofs.SourceLaws.{form_judged, fault_judged}
 use Rattle.hb_top.proofs.judging.short_source.Goals as goal
