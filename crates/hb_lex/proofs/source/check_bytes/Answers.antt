@@ -13,4 +13,4 @@ returns-then-good-bytes-clause-allowed c =
 pub returns-clause-fault : goal.returns-clause-fault
 returns-clause-fault c =
     bad_at c.args.bytes.now c.before-2.result.now c.run-good.result c.place_after-place.result c.byte_at-byte.result c.hex_digit.result c.hex_digit-2.result c.refused.result
-    c.run-good.ensures.size c.run-good.ensures.within c.if-good-bytes.false c.before-2.ensures.bytes c.place_after-place.ensures.place c.byte_at-byte.ensures c.hex_digit.ensures c.hex_digit-2.ensures c.refused.ensures
+    c.run-good.ensures.size c.run-good.ensures.within c.if-good-bytes.false c.before-2.ensures.bytes c.place_after-place.ensures.place c.byte_at-byte.ensures c.hex_digit.ensures c.hex_digit-2.ensures (c.refused.ensures.whole (omega arith))
