@@ -1,8 +1,5 @@
 -- What the code answers, against what is laid out.
 use Rattle.std.specs.Prelude.{◌≡◌, List, Some, None}
-use Rattle.hb_base.specs.declared.refusal.Refusal.{Refusal}
-use Rattle.hb_base.specs.declared.refusal.Fault.{Fault}
-use Rattle.hb_base.specs.declared.refusal.Fault.TheVariants.{Refused, Memory}
 use Rattle.hb_tokens.specs.declared.token.Token.{Token}
 use Rattle.hb_layout.specs.declared.layout.Outcome.{Outcome}
 use Rattle.hb_layout.specs.declared.layout.Outcome.TheVariants.{Given, Deep, Unclosed}

@@ -1,4 +1,4 @@
-ghost use Rattle.std.specs.Prelude.{◌≡◌, Some, None, MatchOption};
+ghost use Rattle.std.specs.Prelude.{◌≡◌, ◌≤◌, length, Some, None, IfSome, MatchOption};
 ghost use Rattle.std.specs.Option.{option_copied};
 ghost use Rattle.hb_layout.specs.Profile.{arrow_after, arrow_after_kind, left_out_word, left_out_kind, first_left_out};
 
@@ -14,7 +14,8 @@ pub struct LeftOut {
 
 /// What is left out where an arrow comes right after this word.
 fn arrow_after(word: Word) -> Option<&'static [u8]>
-    ensures { option_copied result ≡ arrow_after word }
+    ensures text { option_copied result ≡ arrow_after word }
+    ensures short { IfSome result (λ text. length text.now ≤ 200) }
 {
     match word {
         Word::If => Some(b"if <-"),
@@ -24,7 +25,8 @@ fn arrow_after(word: Word) -> Option<&'static [u8]>
 }
 
 fn arrow_after_kind(kind: TokenKind) -> Option<&'static [u8]>
-    ensures { option_copied result ≡ arrow_after_kind kind }
+    ensures text { option_copied result ≡ arrow_after_kind kind }
+    ensures short { IfSome result (λ text. length text.now ≤ 200) }
 {
     match kind {
         TokenKind::Word(word) => arrow_after(word),
@@ -34,7 +36,8 @@ fn arrow_after_kind(kind: TokenKind) -> Option<&'static [u8]>
 
 /// What is left out at a word, after a token of some kind.
 fn left_out_word(before: TokenKind, word: Word) -> Option<&'static [u8]>
-    ensures { option_copied result ≡ left_out_word before word }
+    ensures text { option_copied result ≡ left_out_word before word }
+    ensures short { IfSome result (λ text. length text.now ≤ 200) }
 {
     match word {
         Word::Module => Some(b"module"),
@@ -53,7 +56,8 @@ fn left_out_word(before: TokenKind, word: Word) -> Option<&'static [u8]>
 }
 
 fn left_out_kind(before: TokenKind, kind: TokenKind) -> Option<&'static [u8]>
-    ensures { option_copied result ≡ left_out_kind before kind }
+    ensures text { option_copied result ≡ left_out_kind before kind }
+    ensures short { IfSome result (λ text. length text.now ≤ 200) }
 {
     match kind {
         TokenKind::Word(word) => left_out_word(before, word),
@@ -63,7 +67,8 @@ fn left_out_kind(before: TokenKind, kind: TokenKind) -> Option<&'static [u8]>
 
 /// The first word or form that is left out.
 pub fn first_left_out(tokens: &[Token]) -> Option<LeftOut>
-    ensures { MatchOption result (first_left_out tokens.now ≡ None) (λ found. first_left_out tokens.now ≡ Some (found.place, found.text.now)) }
+    ensures first { MatchOption result (first_left_out tokens.now ≡ None) (λ found. first_left_out tokens.now ≡ Some (found.place, found.text.now)) }
+    ensures short { IfSome result (λ found. length found.text.now ≤ 200) }
 {
     let mut before = TokenKind::End;
     for token in tokens {

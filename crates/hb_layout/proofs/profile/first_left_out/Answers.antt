@@ -7,11 +7,11 @@ use Rattle.hb_layout.proofs.profile.first_left_out.Goals as goal
 pub loop-token-init : goal.loop-token-init
 loop-token-init c = left_out_from_start c.args.tokens.now
 
-pub returns-in-Some : goal.returns-in-Some
-returns-in-Some c = c.loop-token.invariant ∙ found_at c.loop-token.before c.args.tokens.now c.loop-token.token-index _ c.in-Some.text.now c.loop-token-test.true c.in-Some.ensures
+pub returns-in-Some-clause-first : goal.returns-in-Some-clause-first
+returns-in-Some-clause-first c = c.loop-token.invariant ∙ found_at c.loop-token.before c.args.tokens.now c.loop-token.token-index _ c.in-Some.text.now c.loop-token-test.true c.in-Some.ensures.text
 
 pub loop-token-preserved : goal.loop-token-preserved
-loop-token-preserved c = c.loop-token.invariant ∙ not_at c.loop-token.before c.args.tokens.now c.loop-token.token-index _ c.loop-token-test.true c.in_default.ensures
+loop-token-preserved c = c.loop-token.invariant ∙ not_at c.loop-token.before c.args.tokens.now c.loop-token.token-index _ c.loop-token-test.true c.in_default.ensures.text
 
-pub returns : goal.returns
-returns c = c.loop-token.invariant ∙ (at_drop_all (left_out_after c.loop-token.before) c.args.tokens.now c.loop-token.token-index c.loop-token-test.false ∙ not_in_nothing c.loop-token.before [] refl)
+pub returns-clause-first : goal.returns-clause-first
+returns-clause-first c = c.loop-token.invariant ∙ (at_drop_all (left_out_after c.loop-token.before) c.args.tokens.now c.loop-token.token-index c.loop-token-test.false ∙ not_in_nothing c.loop-token.before [] refl)
