@@ -9,8 +9,8 @@ use itoa::Buffer;
 /// The size of a buffer: the longest line of a run is shorter.
 pub const ROOM: usize = 128;
 
-pub fn put(buffer: &mut [u8; ROOM], at: usize, byte: u8) -> usize
-    requires { at < 128 }
+pub fn put<const N: usize>(buffer: &mut [u8; N], at: usize, byte: u8) -> usize
+    requires { at < N }
     ensures next { result ≡ at + 1 }
     ensures text { take result buffer.new ≡ take at buffer.old ++ byte ∷ [] }
 {
@@ -18,8 +18,8 @@ pub fn put(buffer: &mut [u8; ROOM], at: usize, byte: u8) -> usize
     at + 1
 }
 
-pub fn put_text(buffer: &mut [u8; ROOM], at: usize, text: &[u8]) -> usize
-    requires { at + length text.now ≤ 128 }
+pub fn put_text<const N: usize>(buffer: &mut [u8; N], at: usize, text: &[u8]) -> usize
+    requires { at + length text.now ≤ N }
     ensures next { result ≡ at + length text.now }
     ensures text { take result buffer.new ≡ take at buffer.old ++ text.now }
 {
@@ -30,8 +30,8 @@ pub fn put_text(buffer: &mut [u8; ROOM], at: usize, text: &[u8]) -> usize
     end
 }
 
-pub fn put_number(buffer: &mut [u8; ROOM], at: usize, number: u64) -> usize
-    requires { at + 20 ≤ 128 }
+pub fn put_number<const N: usize>(buffer: &mut [u8; N], at: usize, number: u64) -> usize
+    requires { at + 20 ≤ N }
     ensures next { result ≤ at + 20 }
     ensures text { take result buffer.new ≡ take at buffer.old ++ decimal number }
 {

@@ -17,6 +17,9 @@ pub const WRITE_FAULT: u8 = 5;
 /// The status where there was no memory.
 pub const NO_MEMORY: u8 = 12;
 
+/// The size of a buffer for the line of a refusal: its head has at most 54 bytes, and its detail at most 200.
+const REFUSAL_ROOM: usize = 256;
+
 fn field_name(field: Field) -> &'static [u8]
     ensures name { result.now ≡ field_name field }
     ensures short { length result.now ≤ 16 }
@@ -57,7 +60,7 @@ fn put_line(buffer: &mut [u8; ROOM], at: usize, text: &[u8]) -> usize
     put(buffer, end, b'\n')
 }
 
-fn put_place(buffer: &mut [u8; ROOM], at: usize, place: Place) -> usize
+fn put_place(buffer: &mut [u8; REFUSAL_ROOM], at: usize, place: Place) -> usize
     requires { at ≤ 20 }
     ensures within { result ≤ at + 41 }
     ensures text { take result buffer.new ≡ take at buffer.old ++ place_text place }
@@ -106,8 +109,8 @@ fn code_name(code: Code) -> &'static [u8]
 }
 
 /// Writes the line of a refusal up to its detail.
-fn put_head(buffer: &mut [u8; ROOM], refusal: &Refusal) -> usize
-    ensures within { result ≤ 128 }
+fn put_head(buffer: &mut [u8; REFUSAL_ROOM], refusal: &Refusal) -> usize
+    ensures within { result ≤ 54 }
     ensures text { take result buffer.new ≡ refusal_head refusal.now }
 {
     let end = put_text(buffer, 0, b"refused ");
@@ -115,6 +118,16 @@ fn put_head(buffer: &mut [u8; ROOM], refusal: &Refusal) -> usize
     let end = put(buffer, end, b' ');
     let end = put_place(buffer, end, refusal.place);
     put(buffer, end, b' ')
+}
+
+/// Writes the line of a refusal.
+fn put_refusal(buffer: &mut [u8; REFUSAL_ROOM], refusal: &Refusal) -> usize
+    ensures within { result ≤ 256 }
+    ensures text { take result buffer.new ≡ refusal_line refusal.now }
+{
+    let end = put_head(buffer, refusal);
+    let end = put_text(buffer, end, refusal.detail.as_slice());
+    put(buffer, end, b'\n')
 }
 
 fn put_script(buffer: &mut [u8; ROOM], number: u32) -> usize
@@ -144,26 +157,13 @@ fn tell<O: Sink>(text: &[u8], good: u8, out: &mut O) -> u8
     }
 }
 
-/// Puts the detail of a refusal, and the end of its line.
-fn tell_detail<O: Sink>(detail: &[u8], out: &mut O) -> u8
-    ensures { Tells (detail.now ++ 10 ∷ []) 1 (printed (O.taken out.old) (O.faults out.old)) (printed (O.taken out.new) (O.faults out.new)) result }
-{
-    match out.put(detail) {
-        Ok(()) => tell(b"\n", 1, out),
-        Err(Failed) => WRITE_FAULT,
-    }
-}
-
-/// Puts the line of a refusal.
+/// Puts the line of a refusal, by one call of the sink.
 fn tell_refusal<O: Sink>(refusal: &Refusal, out: &mut O) -> u8
     ensures { Tells (refusal_line refusal.now) 1 (printed (O.taken out.old) (O.faults out.old)) (printed (O.taken out.new) (O.faults out.new)) result }
 {
-    let mut buffer = [0; ROOM];
-    let length = put_head(&mut buffer, refusal);
-    match out.put(&buffer[..length]) {
-        Ok(()) => tell_detail(refusal.detail.as_slice(), out),
-        Err(Failed) => WRITE_FAULT,
-    }
+    let mut buffer = [0; REFUSAL_ROOM];
+    let length = put_refusal(&mut buffer, refusal);
+    tell(&buffer[..length], 1, out)
 }
 
 /// Puts the line of a refused script.
