@@ -81,6 +81,29 @@ fn a_sink_that_fails_at_its_third_put_ends_the_call(rt: HostRuntime) {
 }
 
 #[test]
+fn the_line_of_a_refusal_is_put_by_one_call(rt: HostRuntime) {
+    let seen = call(&rt, rt.alloc(), RUN, EMPTY_DO, b"", &[], &[2]);
+    assert_eq!(rt; seen.status, 1);
+    assert_eq!(rt; seen.text.as_slice(), b"refused E04 1:68 -\n".as_slice());
+}
+
+#[test]
+fn a_bad_source_is_refused_before_a_missing_script_is_read(rt: HostRuntime) {
+    let seen = call(
+        &rt,
+        rt.alloc(),
+        b"run a.hb none.script a.img",
+        EMPTY_DO,
+        b"",
+        &[],
+        &[],
+    );
+    assert_eq!(rt; seen.status, 1);
+    assert_eq!(rt; seen.text.as_slice(), b"refused E04 1:68 -\n".as_slice());
+    assert_eq!(rt; seen.image, None);
+}
+
+#[test]
 fn a_missing_file_is_a_read_fault(rt: HostRuntime) {
     let seen = call(
         &rt,
