@@ -2,8 +2,8 @@
 use Rattle.std.proofs.Common.{◌≡◌, ◌≢◌, ℕ, zero, suc, ◌+◌, ◌-◌, ◌*◌, ◌%◌, ◌^◌, ◌<◌, ◌≤◌, ◌⊎◌, inl, inr, true, false, nat_le, List, length, slice_index, slice_set, replicate, Some, None, refl, ap, sym, ◌∙◌, subst, arith, length-set, get_or-set_same, get_or-set_other}
 use Rattle.std.proofs.lemmas.Bool.{lt-leb, le-leb, and_right, cases_lt}
 use Rattle.std.proofs.lemmas.List.{length-replicate, get_or-replicate, get_or_past}
-use Rattle.hb_mach.specs.Memory.{Region, Memory, zeroed, end_of, is_within, load, store, put_in, number_at}
-use Rattle.hb_mach.proofs.MemoryLaws.{load-store_same, load-store_other, length-put_number}
+use Rattle.hb_isa.specs.Memory.{Region, Memory, zeroed, end_of, is_within, load, store, put_in, number_at}
+use Rattle.hb_isa.proofs.MemoryLaws.{load-store_same, load-store_other, length-put_number}
 use Rattle.hb_select.specs.Code.{address_of}
 
 -- memory has no areas but a stack of so many bytes, whose top is a frame with these words

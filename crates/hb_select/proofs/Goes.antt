@@ -7,9 +7,9 @@ use Rattle.hb_runs.specs.System.{End, System, weighed, each_one}
 use Rattle.hb_runs.specs.Simulation.{Walk}
 use Rattle.hb_runs.proofs.Walks as walks
 use Rattle.hb_runs.proofs.Counting.{counted-most}
-use Rattle.hb_mach.specs.Run.{events, turn_of, turn}
-use Rattle.hb_mach.specs.State.{State}
-use Rattle.hb_mach.specs.Table.{table}
+use Rattle.hb_isa.specs.Run.{events, turn_of, turn}
+use Rattle.hb_isa.specs.State.{State}
+use Rattle.hb_isa.specs.Table.{table}
 
 -- what is asked of each state in which an instruction is done
 abbrev pub IsFine : State → Type 0

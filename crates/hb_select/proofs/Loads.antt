@@ -15,9 +15,9 @@ use Rattle.hb_flat.specs.declared.form.Operand.TheVariants.{Word, Number}
 use Rattle.hb_flat.specs.Meaning.{value_of}
 use Rattle.hb_flat.specs.Rules.{IsOperand}
 use Rattle.hb_asm.specs.Arithmetic.{wrapped, unsigned, alu_of, load_size, extended, store_size}
-use Rattle.hb_mach.specs.Memory.{Memory, load, store}
-use Rattle.hb_mach.specs.State.{State}
-use Rattle.hb_mach.specs.Table.{table, execute, computed, loading, loading_memory, storing, storing_memory, goes_on, upper}
+use Rattle.hb_isa.specs.Memory.{Memory, load, store}
+use Rattle.hb_isa.specs.State.{State}
+use Rattle.hb_isa.specs.Table.{table, execute, computed, loading, loading_memory, storing, storing_memory, goes_on, upper}
 use Rattle.hb_select.specs.Code.{upper_part, lower_part, address_of, operand_code, put_code}
 use Rattle.hb_select.proofs.Numbers.{upper-fits, lower-fits, parts-whole, address-fits}
 use Rattle.hb_select.proofs.Goes.{Goes, one_step, together}

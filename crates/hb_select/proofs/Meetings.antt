@@ -23,14 +23,14 @@ use Rattle.hb_base.specs.Ports.{IsWidth, IsPort, ArePorts}
 use Rattle.hb_flat.specs.Meaning.{is_at, read_at, written_at}
 use Rattle.hb_asm.specs.Arithmetic.{wrapped, unsigned, alu_of, load_size, extended, store_size, low_part}
 use Rattle.hb_base.specs.Inputs.{first_value, without_first, AreInputs}
-use Rattle.hb_mach.specs.Memory.{load, store}
-use Rattle.hb_mach.specs.State.{State}
-use Rattle.hb_mach.specs.Table.{table, execute, computed, loading, loading_memory, loading_port, reading, storing, storing_memory, storing_port, ending, called, counted, goes_on, is_read_at, is_written_at}
-use Rattle.hb_mach.proofs.PortLaws.{first_value-event}
+use Rattle.hb_isa.specs.Memory.{load, store}
+use Rattle.hb_isa.specs.State.{State}
+use Rattle.hb_isa.specs.Table.{table, execute, computed, loading, loading_memory, loading_port, reading, storing, storing_memory, storing_port, ending, called, counted, goes_on, is_read_at, is_written_at}
+use Rattle.hb_isa.proofs.InputLaws.{first_value-fits}
 use Rattle.hb_select.specs.Code.{load_of, store_of}
 use Rattle.hb_select.proofs.Numbers.{plus_nothing}
 use Rattle.hb_runs.specs.System.{End as TurnEnd}
-use Rattle.hb_mach.specs.Run.{turn}
+use Rattle.hb_isa.specs.Run.{turn}
 use Rattle.hb_select.proofs.Goes.{Goes, IsFine, one_step, together, nowhere, ends_now}
 use Rattle.hb_select.proofs.Frames.{no_load, no_store}
 use Rattle.hb_select.proofs.Places.{IsAt, Puts, does, on, changed, put_one, computes}
@@ -82,7 +82,7 @@ pub line-fits : (test : Port → Bool) (ports : List Port) (lines : List ScriptL
 line-fits test ports lines place value rules inputs e first =
     let found = position-Some test ports place a_port e in
     let there : slice_get ports place ≡ Some (get_or ports place a_port) = slice_get-get_or ports place a_port found.0 in
-    event-fits (slice_get ports place) (get_or ports place a_port) value there (All-get_or IsPort ports place a_port found.0 rules.each) (first_value-event ports lines place value inputs first)
+    event-fits (slice_get ports place) (get_or ports place a_port) value there (All-get_or IsPort ports place a_port found.0 rules.each) (first_value-fits ports lines place value inputs first)
 
 -- ---- loads
 

@@ -10,10 +10,10 @@ use Rattle.hb_base.specs.declared.script.ScriptLine.{ScriptLine}
 use Rattle.hb_base.specs.declared.step.Step.{Step}
 use Rattle.hb_base.specs.declared.step.Step.TheVariants.{Going}
 use Rattle.hb_asm.specs.Arithmetic.{wrapped}
-use Rattle.hb_mach.specs.Memory.{Memory}
-use Rattle.hb_mach.specs.Run.{events}
-use Rattle.hb_mach.specs.State.{State}
-use Rattle.hb_mach.specs.Table.{table, running, fetched, execute, computed, goes_on, word_at_pc}
+use Rattle.hb_isa.specs.Memory.{Memory}
+use Rattle.hb_isa.specs.Run.{events}
+use Rattle.hb_isa.specs.State.{State}
+use Rattle.hb_isa.specs.Table.{table, running, fetched, execute, computed, goes_on, word_at_pc}
 use Rattle.hb_select.proofs.Goes.{Goes, GoesOn, one_step, together}
 use Rattle.hb_select.proofs.Frames.{IsFrame}
 

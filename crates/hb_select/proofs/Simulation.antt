@@ -5,9 +5,9 @@ use Rattle.hb_base.specs.declared.port.Port.{Port}
 use Rattle.hb_base.specs.declared.step.Step.{Step}
 use Rattle.hb_base.specs.declared.step.Stop.{Stop}
 use Rattle.hb_flat.specs.Meaning.{Thread, Turn, Quiet, Event, End, turn as flat_turn, followed as flat_followed, shown as flat_shown}
-use Rattle.hb_mach.specs.Run.{shown, turn}
-use Rattle.hb_mach.specs.State.{State}
-use Rattle.hb_mach.proofs.TurnLaws.{told-shown}
+use Rattle.hb_isa.specs.Run.{shown, turn}
+use Rattle.hb_isa.specs.State.{State}
+use Rattle.hb_isa.proofs.TurnLaws.{told-shown}
 use Rattle.hb_runs.specs.Outcome.{Outcome}
 use Rattle.hb_runs.specs.System.{Finished, By, Stuck, told, followed, IsSane, weighed, by_end, shows_first}
 use Rattle.hb_runs.specs.Law.{Law, course_of, by_turns}

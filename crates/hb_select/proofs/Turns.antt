@@ -22,8 +22,8 @@ use Rattle.hb_flat.specs.Meaning.{Thread, Turn, value_of, read_at, written_at, t
 use Rattle.hb_flat.specs.Rules.{IsOperand, IsStep}
 use Rattle.hb_asm.specs.Arithmetic.{alu_of}
 use Rattle.hb_base.specs.Inputs.{first_value, without_first, AreInputs}
-use Rattle.hb_mach.specs.State.{State}
-use Rattle.hb_mach.proofs.PortLaws.{AreInputs-without_first}
+use Rattle.hb_isa.specs.State.{State}
+use Rattle.hb_isa.proofs.InputLaws.{AreInputs-without_first}
 use Rattle.hb_select.specs.Code.{operand_code, put_code, load_of, store_of, step_code, tail_code, code_from}
 use Rattle.hb_runs.specs.Simulation.{Matches as MatchesTurn}
 use Rattle.hb_select.specs.Weights.{weight, next_weight, turned}

@@ -18,4 +18,4 @@ pub returns-clause-range : goal.returns-clause-range
 returns-clause-range c = parts_range c.args.flat.now c.push_tail.new.parts (returns-clause-parts c)
 
 pub returns-clause-law : goal.returns-clause-law
-returns-clause-law c = keeps c.args.flat.now _ (returns-clause-parts c)
+returns-clause-law c = keeps c.args.flat.now (record { parts = c.push_tail.new.parts; entry = c.args.flat.now.entry }) (returns-clause-parts c)
