@@ -1,0 +1,6 @@
+pub mod Equations
+pub mod EquationCodes
+pub mod Graph
+pub mod Joined
+pub mod Order
+pub mod Trail
