@@ -1,4 +1,5 @@
 pub mod EquationLemmas
+pub mod FullLemmas
 pub mod GraphLemmas
 pub mod NodeLemmas
 pub mod OrderLemmas

@@ -1,7 +1,7 @@
 -- Going down a graph: nodes that are done have types that obey it, and a node below itself has none.
-use Rattle.std.proofs.Common.{◌≡◌, ◌≢◌, ℕ, zero, suc, ◌+◌, ◌-◌, ◌<◌, ◌⊎◌, inl, inr, List, [], ◌∷◌, ◌++◌, length, reverse, take, get_or, set, Option, Some, None, sym, refl, ap, ◌∙◌, subst, arith, ⊎_elim, length-set, get_or-set_same, get_or-set_other}
+use Rattle.std.proofs.Common.{◌≡◌, ◌≢◌, ℕ, zero, suc, ◌+◌, ◌-◌, ◌<◌, ◌≤◌, ◌⊎◌, inl, inr, List, [], ◌∷◌, ◌++◌, length, reverse, take, get_or, set, replicate, Bool, true, false, MatchBool, Option, Some, None, sym, refl, ap, ◌∙◌, subst, arith, ⊎_elim, length-set, get_or-set_same, get_or-set_other}
 use Rattle.std.proofs.lemmas.List.{reverse-append, take_more, take_all}
-use Rattle.std.proofs.lemmas.Bool.{cases_eq}
+use Rattle.std.proofs.lemmas.Bool.{cases_eq, cases_lt}
 use Rattle.hb_types.specs.declared.atom.Atom.TheVariants as atom
 use Rattle.hb_unknowns.specs.declared.node.Entry.{Entry}
 use Rattle.hb_unknowns.specs.declared.node.Node.{Node}
@@ -11,6 +11,7 @@ use Rattle.hb_unknowns.specs.declared.order.Mark.TheVariants.{New, Open, Done}
 use Rattle.hb_types.specs.Finite.{Finite, Single, Applied}
 use Rattle.hb_unknowns.specs.Joined.{at}
 use Rattle.hb_unknowns.specs.Graph.{Says, Within, IsAbove, Obeys, IsGraph}
+use Rattle.hb_unknowns.specs.Full.{IsOrder}
 use Rattle.hb_unknowns.specs.Order.{marked, unless_done, first_undone, size, IsPart, Falls, AllFall, Member, AllBelow, Ready, Settled, Walked, Touched, AreClear, AreCleared, IsMet}
 use Rattle.hb_unknowns.proofs.ValueLemmas.{value, value-says, with_at, with_at-same, with_at-other}
 
@@ -402,3 +403,34 @@ met-all nodes marks past starts w n = record {
   walked = w;
   met = λ k m. done-at nodes marks (reverse past) w k (n k (subst (Member k) (sym (take_all (length starts) starts (omega arith))) m));
 }
+
+replicated : (n k : ℕ) → marked (replicate n New) k ≡ New
+replicated zero k = refl
+replicated (suc n) zero = refl
+replicated (suc n) (suc k) = replicated n k
+
+pub clear-all : (nodes : List Entry) (marks : List Mark) → marks ≡ replicate (length nodes) New → length marks ≡ length nodes → AreClear nodes marks
+clear-all nodes marks e h = record { size = h; new = λ k. ap (λ ms. marked ms k) e ∙ replicated (length nodes) k }
+
+pub below-one : (n m x : ℕ) (xs : List ℕ) → n ≤ m → x < m → AllBelow n xs → AllBelow m (xs ++ x ∷ [])
+below-one n m x [] h l a = (l, tt)
+below-one n m x (y ∷ ys) h l a = (omega (arith, h, a.0), below-one n m x ys h l a.1)
+
+member-left : (k x : ℕ) (xs : List ℕ) → Member k xs → Member k (xs ++ x ∷ [])
+member-left k x [] m = absurd m
+member-left k x (y ∷ ys) m = ⊎_elim (λ e. inl e) (λ r. inr (member-left k x ys r)) m
+
+member-last : (k x : ℕ) (xs : List ℕ) → k ≡ x → Member k (xs ++ x ∷ [])
+member-last k x [] e = inl e
+member-last k x (y ∷ ys) e = inr (member-last k x ys e)
+
+pub number-next : (n : ℕ) (xs new : List ℕ) → new ≡ xs ++ n ∷ [] → AllBelow n xs → ((k : ℕ) → k < n → Member k xs) → AllBelow (n + 1) new × ((k : ℕ) → k < n + 1 → Member k new)
+number-next n xs new e a m = rw e (
+  below-one n (n + 1) n xs (omega arith) (omega arith) a,
+  λ k h. ⊎_elim (λ lt. member-left k n xs (m k lt)) (λ ge. member-last k n xs (omega (arith, h, ge))) (cases_lt k n),
+)
+
+pub order-of : (nodes : List Entry) (marks : List Mark) (past starts : List ℕ) (ok : Bool) → (v : ℕ → Finite) × Obeys v nodes →
+    MatchBool ok (IsMet nodes marks past starts) ((v : ℕ → Finite) → Obeys v nodes → ⊥) → ((k : ℕ) → k < length nodes → Member k starts) → IsOrder nodes (reverse past)
+order-of nodes marks past starts true s m w = record { sorted = m.walked.sorted; within = m.walked.over; whole = λ k h. m.walked.dones k (m.met k (w k h)) }
+order-of nodes marks past starts false s m w = absurd (m s.0 s.1)

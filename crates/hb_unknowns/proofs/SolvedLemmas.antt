@@ -37,13 +37,13 @@ level-low (e ∷ es) zero = omega (arith, sum_by-cons (λ (q : Entry). q.level) 
 level-low (e ∷ es) (suc k) = omega (arith, sum_by-cons (λ (q : Entry). q.level) e es, level-low es k)
 
 -- more than any place with its level
-abbrev wide : List Entry → ℕ
+abbrev pub wide : List Entry → ℕ
 wide nodes = length nodes * (sum_by (λ (e : Entry). e.level) nodes + 1)
 
-abbrev key : List Entry → ℕ → ℕ
+abbrev pub key : List Entry → ℕ → ℕ
 key nodes k = length nodes * level_at nodes k + k
 
-abbrev rank : List Entry → (ℕ → Finite) → ℕ → ℕ
+abbrev pub rank : List Entry → (ℕ → Finite) → ℕ → ℕ
 rank nodes w k = wide nodes * size (w k) + key nodes k
 
 key-low : (nodes : List Entry) (k : ℕ) → k < length nodes → key nodes k < wide nodes
@@ -71,7 +71,7 @@ rank-falls nodes w k p f h =
     omega (arith, same, key-above nodes p k even.1 h))
     f
 
-rank-part : (nodes : List Entry) (w : ℕ → Finite) (k p : ℕ) → IsGraph nodes → Obeys w nodes → IsPart p (at nodes k) → rank nodes w p < rank nodes w k
+pub rank-part : (nodes : List Entry) (w : ℕ → Finite) (k p : ℕ) → IsGraph nodes → Obeys w nodes → IsPart p (at nodes k) → rank nodes w p < rank nodes w k
 rank-part nodes w k p g o i =
     rank-falls nodes w k p (part-falls nodes w k p (at nodes k) (g.inside k) (o.each k) i) (part-inside nodes k p (at nodes k) (g.inside k) i)
 

@@ -1,5 +1,6 @@
 pub mod Equations
 pub mod EquationCodes
+pub mod Full
 pub mod Graph
 pub mod Joined
 pub mod Order

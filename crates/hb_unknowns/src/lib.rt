@@ -3,13 +3,17 @@
 #![tactic(auto)]
 
 mod error;
+mod full;
 mod graph;
 mod node;
 mod order;
 mod taking;
+#[cfg(test)]
+mod tests;
 mod trail;
 mod unknowns;
 
 pub use error::EquateError;
+pub use full::FullTypes;
 pub use node::Pair;
 pub use unknowns::Unknowns;

@@ -2,7 +2,8 @@ ghost use Rattle.std.specs.Prelude.{◌≡◌, ℕ, ◌<◌, ◌⊎◌, length, 
 ghost use Rattle.hb_types.specs.Finite.{Finite};
 ghost use Rattle.hb_unknowns.specs.Joined.{entry_at};
 ghost use Rattle.hb_unknowns.specs.Graph.{Obeys, IsGraph};
-ghost use Rattle.hb_unknowns.specs.Order.{marked, first_undone, Walked, Touched, AllBelow, AreClear, AreCleared, IsMet, IsReached};
+ghost use Rattle.hb_unknowns.specs.Full.{IsOrder};
+ghost use Rattle.hb_unknowns.specs.Order.{marked, first_undone, Walked, Touched, AllBelow, AreClear, AreCleared, IsMet, IsReached, Member};
 
 use crate::node::{Entry, Node, node_at};
 use hb_base::Memory;
@@ -157,4 +158,30 @@ pub fn is_solvable(
     clear(marks, &stack);
     clear(marks, &finished);
     answer
+}
+
+/// All nodes, each after its parts.
+pub fn sorted(alloc: Global, entries: &[Entry]) -> Result<Vec<usize>, Memory>
+    requires graph { IsGraph entries.now }
+    requires solution { (v : ℕ → Finite) × Obeys v entries.now }
+    ensures { IfOk result (λ order. IsOrder entries.now (reverse order.items)) }
+{
+    let mut marks = vec![in alloc; Mark::New; entries.len()]?;
+    let starts = all_below(alloc, entries.len())?;
+    let mut stack = Vec::new(alloc);
+    let mut finished = Vec::new(alloc);
+    let _whole = walk_all(entries, &mut marks, &mut stack, &mut finished, &starts)?;
+    Ok(finished)
+}
+
+/// The numbers below one.
+fn all_below(alloc: Global, count: usize) -> Result<Vec<usize>, Memory>
+    ensures inside { IfOk result (λ all. AllBelow count all.items) }
+    ensures whole { IfOk result (λ all. (k : ℕ) → k < count → Member k all.items) }
+{
+    let mut all = Vec::new(alloc);
+    for number in 0..count {
+        all.push(number)?;
+    }
+    Ok(all)
 }

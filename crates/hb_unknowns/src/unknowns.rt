@@ -2,14 +2,16 @@ ghost use Rattle.std.specs.Prelude.{◌≡◌, ◌<◌, ℕ, [], ◌∷◌, leng
 ghost use Rattle.hb_types.specs.Finite.{Finite};
 ghost use Rattle.hb_types.specs.Types as tree;
 ghost use Rattle.hb_types.specs.Tables.{type_at, built, HasPartsBelow};
+ghost use Rattle.hb_unknowns.specs.Full.{AreFull};
 ghost use Rattle.hb_unknowns.specs.Graph.{AreWithin};
 ghost use Rattle.hb_unknowns.specs.Equations.{type_count, Solves, IsOwn, IsPut, IsEquated, AreEquated, HasNoSolution, HaveNoSolution, OnClash, equations, node_of};
 
 use crate::error::EquateError;
+use crate::full::{FullTypes, replace_all};
 use crate::node::{Entry, Node, Pair};
 use crate::order::Mark;
 use crate::taking::take_in;
-use hb_base::Memory;
+use hb_base::{List, Memory};
 use hb_types::{Atom, Form, Kind, Types};
 use std::alloc::Global;
 use std::marker::Model;
@@ -171,5 +173,18 @@ impl Unknowns {
             Ok(false) => Err(EquateError::Clash),
             Err(_) => Err(EquateError::Memory),
         }
+    }
+
+    /// The types of all places with each unknown that the equations force to a type without unknowns replaced by that
+    /// type. Every other unknown stays.
+    pub fn full(&self, alloc: Global) -> Result<FullTypes, Memory>
+        ensures full { IfOk result (λ r. AreFull self.now r.types r.places) }
+    {
+        let mut types = Types::new(alloc);
+        let places = replace_all(alloc, &self.types, &self.entries, &mut types)?;
+        Ok(FullTypes {
+            types,
+            places: List::of(places),
+        })
     }
 }
