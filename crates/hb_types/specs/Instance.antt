@@ -1,44 +1,24 @@
 -- A type with a finite type in the place of each unknown.
-use Rattle.std.specs.Prelude.{ℕ, ◌+◌, ◌<◌}
-use Rattle.hb_types.specs.declared.node.Atom.TheVariants as atom
-use Rattle.hb_types.specs.declared.types.Ty.{Ty, Var, Unknown, Con, Nat, Apply', Row_of-Ty, end_of-Ty, more_of-Ty}
+use Rattle.std.specs.Prelude.{ℕ, List}
 use Rattle.hb_types.specs.Finite.{Finite, Single, Applied}
+use Rattle.hb_types.specs.Types.{Ty, Unknown, Leaf, Apply}
+use Rattle.hb_types.specs.Tables.{type_at}
 
--- a box is a row of one type
-abbrev mutual
-  pub instance : (ℕ → Finite) → Ty → Finite
-  instance s (Var n) = Single (atom.Var n)
-  instance s (Unknown n) = s n
-  instance s (Con n) = Single (atom.Con n)
-  instance s (Nat n) = Single (atom.Nat n)
-  instance s (Apply' p f q x) = Applied (boxed s f) (boxed s x)
+abbrev pub instance : (ℕ → Finite) → Ty → Finite
+instance s (Unknown n) = s n
+instance s (Leaf a) = Single a
+instance s (Apply f x) = Applied (instance s f) (instance s x)
 
-  pub boxed : (ℕ → Finite) → {m : _} → Row_of-Ty m → Finite
-  boxed s end_of-Ty = Single (atom.Nat 0)
-  boxed s (more_of-Ty t rest) = instance s t
+-- the finite type at each place of a table
+abbrev pub values : (ℕ → Finite) → List Ty → ℕ → Finite
+values s ts place = instance s (type_at ts place)
 
--- its unknowns are among the first so many
-abbrev mutual
-  pub HasUnknownsBelow : ℕ → Ty → Type 0
-  HasUnknownsBelow count (Var n) = Unit {0}
-  HasUnknownsBelow count (Unknown n) = n < count
-  HasUnknownsBelow count (Con n) = Unit {0}
-  HasUnknownsBelow count (Nat n) = Unit {0}
-  HasUnknownsBelow count (Apply' p f q x) = BoxHasUnknownsBelow count f × BoxHasUnknownsBelow count x
+-- each unknown in the type is as P says
+abbrev pub EachUnknown : (ℕ → Type 0) → Ty → Type 0
+EachUnknown P (Unknown n) = P n
+EachUnknown P (Leaf a) = Unit {0}
+EachUnknown P (Apply f x) = EachUnknown P f × EachUnknown P x
 
-  pub BoxHasUnknownsBelow : ℕ → {m : _} → Row_of-Ty m → Type 0
-  BoxHasUnknownsBelow count end_of-Ty = Unit {0}
-  BoxHasUnknownsBelow count (more_of-Ty t rest) = HasUnknownsBelow count t
-
--- how many forms it is written with, numbers and names as one each
-abbrev mutual
-  pub weight : Ty → ℕ
-  weight (Var n) = 1
-  weight (Unknown n) = 1
-  weight (Con n) = 1
-  weight (Nat n) = 1
-  weight (Apply' p f q x) = boxed_weight f + boxed_weight x + 1
-
-  pub boxed_weight : {m : _} → Row_of-Ty m → ℕ
-  boxed_weight end_of-Ty = 0
-  boxed_weight (more_of-Ty t rest) = weight t
+-- it has no unknowns
+abbrev pub IsKnown : Ty → Type 0
+IsKnown t = EachUnknown (λ n. ⊥) t

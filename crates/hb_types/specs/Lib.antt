@@ -1,8 +1,11 @@
-pub mod Equations
+pub mod Coding
+pub mod Kinds
+pub mod KindCodes
+pub mod KindViews
+pub mod Types
+pub mod TypeCodes
+pub mod Tables
+pub mod Uses
+pub mod UseCodes
 pub mod Finite
-pub mod Full
-pub mod Graph
 pub mod Instance
-pub mod Joined
-pub mod Load
-pub mod Order
