@@ -13,17 +13,17 @@ use Rattle.hb_base.specs.declared.script.ScriptLine.{ScriptLine}
 use Rattle.hb_flat.specs.declared.form.FlatBlock.{FlatBlock}
 use Rattle.hb_flat.specs.declared.form.Flat.{Flat}
 use Rattle.hb_flat.specs.Meaning.{entered, runs, shown_from}
-use Rattle.hb_flat.specs.Rules.{IsBlock, IsStep}
+use Rattle.hb_flat.specs.Rules.{IsBlock, IsStep, IsFlat}
 use Rattle.hb_base.specs.Inputs.{AreInputs}
 use Rattle.hb_isa.specs.State.{started}
 use Rattle.hb_runs.specs.Law.{Law}
 use Rattle.hb_select.specs.Code.{code_from, block_code, program, parts_of, words_of}
 use Rattle.hb_select.specs.Weights.{weights, weighed_from}
-use Rattle.hb_select.specs.Law.{course_of_flat, course_of_code, most_words, KeepsLaw}
+use Rattle.hb_select.specs.Law.{course_of_flat, course_of_code, most_words, KeepsLaw, AccessLaw}
 use Rattle.hb_select.proofs.Frames.{begins}
 use Rattle.hb_select.proofs.Places.{IsAt}
 use Rattle.hb_select.proofs.Turns.{Follows}
-use Rattle.hb_select.proofs.Simulation.{keeps_law}
+use Rattle.hb_select.proofs.Simulation.{keeps_law, keeps_accesses}
 
 -- ---- the words of instructions
 
@@ -73,8 +73,14 @@ block_law flat code ports lines block e f =
     subst (λ (o : Option FlatBlock). Law (record { shows = shown_from o ports lines; costs = weighed_from o ports lines }) (course_of_code code ports flat.stack lines)) (sym e)
     (keeps_law ports flat.stack (entered block lines) (started code ports 0 flat.stack lines) f)
 
-pub keeps : (flat : Flat) (asm : Asm) → asm.parts ≡ parts_of flat → KeepsLaw flat asm
-keeps flat asm parts ports lines is short inputs =
+-- the block with which the program begins, and the machine about to do it
+record Begun (flat : Flat) (asm : Asm) (ports : List Port) (lines : List ScriptLine) : Type 0 where
+  block : FlatBlock
+  stands : slice_get flat.blocks flat.entry ≡ Some block
+  follows : Follows ports flat.stack (entered block lines) (started (words_of asm.parts) ports 0 flat.stack lines)
+
+begun : (flat : Flat) (asm : Asm) → asm.parts ≡ parts_of flat → (ports : List Port) (lines : List ScriptLine) → IsFlat flat ports → length asm.parts ≤ most_words → AreInputs ports lines → Begun flat asm ports lines
+begun flat asm parts ports lines is short inputs =
     let found = first_block flat.blocks flat.entry is.single is.entry in
     let block = found.0 in
     let stands = found.1 in
@@ -84,5 +90,18 @@ keeps flat asm parts ports lines is short inputs =
     let count : length asm.parts ≡ length left = ap length parts ∙ length-map (program flat) part ∙ ap length same in
     let all : All (IsBlock ports flat.stack) (block ∷ []) = subst (λ (bs : List FlatBlock). All (IsBlock ports flat.stack) bs) found.2 is.blocks in
     let fits : IsBlock ports flat.stack block = All-head (IsBlock ports flat.stack) block [] all in
-    let follows = starts_block (words_of asm.parts) ports flat.stack lines block is.rules is.stack_most (omega (arith, short, count)) code fits inputs in
-    block_law flat (words_of asm.parts) ports lines block stands follows
+    record {
+      block = block;
+      stands = stands;
+      follows = starts_block (words_of asm.parts) ports flat.stack lines block is.rules is.stack_most (omega (arith, short, count)) code fits inputs;
+    }
+
+pub keeps : (flat : Flat) (asm : Asm) → asm.parts ≡ parts_of flat → KeepsLaw flat asm
+keeps flat asm parts ports lines is short inputs =
+    let b = begun flat asm parts ports lines is short inputs in
+    block_law flat (words_of asm.parts) ports lines b.block b.stands b.follows
+
+pub accesses : (flat : Flat) (asm : Asm) → asm.parts ≡ parts_of flat → AccessLaw flat asm
+accesses flat asm parts ports lines is short inputs =
+    let b = begun flat asm parts ports lines is short inputs in
+    keeps_accesses ports flat.stack (entered b.block lines) (started (words_of asm.parts) ports 0 flat.stack lines) b.follows

@@ -11,6 +11,9 @@ use Rattle.hb_flat.specs.Rules.{IsFlat}
 use Rattle.hb_base.specs.Inputs.{AreInputs}
 use Rattle.hb_isa.specs.State.{started}
 use Rattle.hb_isa.specs.Run.{shown}
+use Rattle.hb_isa.specs.Table.{table}
+use Rattle.hb_isa.specs.Touches.{IsAllowed}
+use Rattle.hb_runs.specs.Stepping.{after}
 use Rattle.hb_runs.specs.Law.{Course, Law}
 use Rattle.hb_select.specs.Code.{words_of}
 use Rattle.hb_select.specs.Weights.{weights}
@@ -36,3 +39,19 @@ KeepsLaw flat asm =
     → length asm.parts ≤ most_words
     → AreInputs ports lines
     → Law (course_of_flat flat ports lines) (course_of_code (words_of asm.parts) ports flat.stack lines)
+
+-- ---- where accesses lie
+
+-- there are no areas, and so no cells
+abbrev pub NoCell : ℕ → ℕ → Type 0
+NoCell address size = ⊥
+
+-- over the same ports and inputs, each instruction accesses nothing, or the stack region or a port, at its alignment
+abbrev pub AccessLaw : Flat → Asm → Type 0
+AccessLaw flat asm =
+    (ports : List Port) (lines : List ScriptLine)
+    → IsFlat flat ports
+    → length asm.parts ≤ most_words
+    → AreInputs ports lines
+    → (steps : ℕ)
+    → IsAllowed NoCell ports flat.stack (after table steps (started (words_of asm.parts) ports 0 flat.stack lines))
