@@ -7,6 +7,8 @@ use Rattle.std.proofs.lemmas.Slice.Eq.{bytes_eq-Decides}
 use Rattle.hb_base.specs.Names.{AreDistinct, with_text, with_texts}
 use Rattle.hb_base.specs.declared.refusal.Refusal.{Refusal}
 use Rattle.hb_tokens.specs.declared.token.Token.{Token}
+use Rattle.hb_tree.specs.declared.declaration.Program.{Program}
+use Rattle.hb_grammar.specs.Declarations.{Derives}
 use Rattle.hb_lex.specs.Tokens as lexical
 use Rattle.hb_lex.specs.Numbering.{texts_of}
 use Rattle.hb_lex.proofs.SourceLaws.{no_fault, one_fault}
@@ -15,7 +17,7 @@ use Rattle.hb_layout.proofs.Laws.{laid_alone, laid_has_no_fault}
 use Rattle.hb_layout.proofs.Laws as layouts
 use Rattle.hb_parser.specs.Parsing as parsing
 use Rattle.hb_parser.proofs.ParsingLaws as programs
-use Rattle.hb_front.specs.Front.{SpellsTokens, LaysOut, LayingFault, in_text, in_layout, FirstFault, in_laying, in_grammar}
+use Rattle.hb_front.specs.Front.{SpellsTokens, LaysOut, LayingFault, in_text, in_layout, SpellsProgram, FirstFault, in_laying, in_grammar}
 use Rattle.hb_front.proofs.OnceLaws.{spelled_once}
 
 -- a table of distinct texts stays one
@@ -65,6 +67,9 @@ texts_distinct (text ∷ texts) table distinct = texts_distinct texts (with_text
 spelled_alone : {old : List (List ℕ)} {bytes : List ℕ} {names table : List (List ℕ)} {ts us : List Token} → AreDistinct old → SpellsTokens old bytes names ts → SpellsTokens old bytes table us → ts ≡ us
 spelled_alone {old} distinct a b = (spelled_once (subst AreDistinct (sym a.table) (texts_distinct (texts_of a.lexemes) old distinct)) a b).0
 
+tables_alone : {old : List (List ℕ)} {bytes : List ℕ} {names table : List (List ℕ)} {ts us : List Token} → AreDistinct old → SpellsTokens old bytes names ts → SpellsTokens old bytes table us → names ≡ table
+tables_alone {old} distinct a b = (spelled_once (subst AreDistinct (sym a.table) (texts_distinct (texts_of a.lexemes) old distinct)) a b).1
+
 laid_out_alone : {old : List (List ℕ)} {bytes : List ℕ} {names table : List (List ℕ)} {ts us : List Token} → AreDistinct old → LaysOut old bytes names ts → LaysOut old bytes table us → ts ≡ us
 laid_out_alone {ts} {us} distinct a b =
     laid_alone b.tokens ts us (subst (λ xs. layout.Laid xs ts) (spelled_alone distinct a.spelled b.spelled) a.rules) b.rules
@@ -88,3 +93,15 @@ first_fault_alone {a} distinct (in_laying first) (in_grammar laid second) = absu
 first_fault_alone {b} distinct (in_grammar laid first) (in_laying second) = absurd (laid_no_fault distinct laid b second)
 first_fault_alone {a} distinct (in_grammar one first) (in_grammar two second) =
     programs.fault_alone (subst (λ ts. parsing.FirstFault ts a) (laid_out_alone distinct one two) first) second
+
+-- a source is one program at most, over one table
+pub program_once : {old : List (List ℕ)} {bytes : List ℕ} {names table : List (List ℕ)} {p q : Program} → AreDistinct old → SpellsProgram old bytes names p → SpellsProgram old bytes table q → (p ≡ q) × (names ≡ table)
+program_once {p} distinct a b =
+    let same = laid_out_alone distinct a.lays_out b.lays_out in
+    (programs.program_alone (subst (λ ts. Derives ts p) same a.parses.derives) b.parses.derives, tables_alone distinct a.lays_out.spelled b.lays_out.spelled)
+
+-- a source is no program and refused at once
+pub fault_excludes : {old : List (List ℕ)} {bytes : List ℕ} {names : List (List ℕ)} {p : Program} {refusal : Refusal} → AreDistinct old → FirstFault old bytes refusal → SpellsProgram old bytes names p → ⊥
+fault_excludes {refusal} distinct (in_laying first) a = laid_no_fault distinct a.lays_out refusal first
+fault_excludes {refusal} distinct (in_grammar laid first) a =
+    programs.parsed_no_fault a.parses refusal (subst (λ ts. parsing.FirstFault ts refusal) (laid_out_alone distinct laid a.lays_out) first)
