@@ -17,7 +17,9 @@ impl DeclBuilder {
     {
         match (self.heads.names.pop(), self.starts.inits.pop()) {
             (Some(name), Some(init)) => {
-                self.starts.inits.push(InitExpr::each(alloc, place, name, init)?)?;
+                self.starts
+                    .inits
+                    .push(InitExpr::each(alloc, place, name, init)?)?;
                 Ok(true)
             }
             _ => Ok(false),

@@ -181,7 +181,12 @@ fn is_that_init(init: &InitExpr) -> bool {
     match &init.kind {
         InitKind::Each(index, each) => match &each.kind {
             InitKind::Fields(fields) => match fields.as_slice() {
-                [FieldInit { name, init: cell_init }] => match &cell_init.kind {
+                [
+                    FieldInit {
+                        name,
+                        init: cell_init,
+                    },
+                ] => match &cell_init.kind {
                     InitKind::Cell(cell) => {
                         is_name(index, 101)
                             && is_name(name, 102)

@@ -13,7 +13,6 @@ use Rattle.hb_asm.specs.Arithmetic.{store_size, low_part}
 use Rattle.hb_base.specs.Inputs.{AreInputs, first_value}
 use Rattle.hb_isa.specs.Table.{is_out, is_met_at, is_written_at}
 use Rattle.hb_isa.proofs.InputLaws.{first_value-fits}
-
 pub use Rattle.hb_isa.proofs.InputLaws.{AreInputs-without_first}
 
 -- the line that a port takes first is an input of that port
