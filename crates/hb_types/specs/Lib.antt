@@ -7,5 +7,6 @@ pub mod TypeCodes
 pub mod Tables
 pub mod Uses
 pub mod UseCodes
+pub mod Closure
 pub mod Finite
 pub mod Instance

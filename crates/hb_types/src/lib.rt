@@ -7,6 +7,8 @@ mod instance_use;
 mod kind;
 mod scheme;
 mod table;
+#[cfg(test)]
+mod tests;
 mod types;
 
 pub use atom::Atom;

@@ -2,9 +2,10 @@ ghost use Rattle.std.specs.Prelude.{◌≡◌, ◌<◌, ◌+◌, ◌≤◌, IfOk
 ghost use Rattle.hb_unknowns.specs.Equations.{type_count};
 
 use crate::error::EquateError;
+use crate::full::FullTypes;
 use crate::unknowns::Unknowns;
 use hb_base::Memory;
-use hb_types::{Atom, Kind};
+use hb_types::{Atom, Form, Kind};
 use std::alloc::Global;
 use std::test::Fail;
 
@@ -93,4 +94,67 @@ fn a_long_chain_is_taken_in(rt: HostRuntime) -> Result<(), Fail> {
     assert!(rt; takes(&mut all, 0, one));
     assert!(rt; !takes(&mut all, 100_000, two));
     Ok(())
+}
+
+#[test]
+fn forty_nested_pairs_take_forty_nodes(rt: HostRuntime) -> Result<(), Fail> {
+    let mut all = unknowns(rt.alloc(), 41)?;
+    let before = all.len();
+    for number in 0..40 {
+        let whole = pair(&mut all, number, number)?;
+        assert!(rt; number + 1 < all.len());
+        assert!(rt; takes(&mut all, number + 1, whole));
+    }
+    assert!(rt; all.len() == before + 120);
+    let one = all.leaf(Atom::Con(1))?;
+    assert!(rt; 0 < one);
+    assert!(rt; takes(&mut all, 0, one));
+    let full = all.full(rt.alloc())?;
+    assert!(rt; full.types.len() < 500);
+    Ok(())
+}
+
+#[test]
+fn deep_types_are_equated(rt: HostRuntime) -> Result<(), Fail> {
+    let mut all = unknowns(rt.alloc(), 2)?;
+    let con = all.leaf(Atom::Con(1))?;
+    let mut left = 0;
+    let mut right = 1;
+    for _level in 0..100_000 {
+        left = all.apply(con, left)?;
+        right = all.apply(con, right)?;
+    }
+    assert!(rt; takes(&mut all, left, right));
+    assert!(rt; takes(&mut all, 0, con));
+    assert!(rt; matches!(all.equate(1, left), Err(EquateError::Clash)));
+    let full = all.full(rt.alloc())?;
+    assert!(rt; full.types.len() < 500_000);
+    Ok(())
+}
+
+#[test]
+fn forced_unknowns_are_replaced_and_others_stay(rt: HostRuntime) -> Result<(), Fail> {
+    let mut all = unknowns(rt.alloc(), 3)?;
+    let five = all.leaf(Atom::Nat(5))?;
+    let half = all.apply(five, 1)?;
+    assert!(rt; takes(&mut all, 0, half));
+    let before = all.full(rt.alloc())?;
+    assert!(rt; form_of(&before, 0) == Some(Form::Unknown(0)));
+    let con = all.leaf(Atom::Con(2))?;
+    assert!(rt; takes(&mut all, 1, con));
+    let after = all.full(rt.alloc())?;
+    assert!(rt; matches!(form_of(&after, 0), Some(Form::Apply(_, _))));
+    assert!(rt; form_of(&after, 1) == Some(Form::Leaf(Atom::Con(2))));
+    assert!(rt; form_of(&after, 2) == Some(Form::Unknown(2)));
+    Ok(())
+}
+
+/// The form of the full type of a place.
+fn form_of(full: &FullTypes, place: usize) -> Option<Form> {
+    let at = full.places.as_slice().get(place)?;
+    if *at < full.types.len() {
+        Some(full.types.form(*at))
+    } else {
+        None
+    }
 }

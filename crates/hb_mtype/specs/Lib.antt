@@ -1,0 +1,4 @@
+pub mod MTypes
+pub mod MTypeCodes
+pub mod MTypeViews
+pub mod MTypeFalls
