@@ -1,8 +1,9 @@
-pub mod Equations
-pub mod Finite
-pub mod Full
-pub mod Graph
-pub mod Instance
-pub mod Joined
-pub mod Load
-pub mod Order
+pub mod Coding
+pub mod Kinds
+pub mod KindCodes
+pub mod KindViews
+pub mod Types
+pub mod TypeCodes
+pub mod Tables
+pub mod Uses
+pub mod UseCodes

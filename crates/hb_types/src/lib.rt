@@ -1,19 +1,17 @@
-//! Kinds, types and predicates, ground types, and equations between types.
+//! Types, kinds and predicates as all passes share them, and what equations between types say: plain data, whose
+//! types are nodes of a table, and the laws of equations between finite types.
 #![tactic(auto)]
 
-mod error;
-mod full;
-mod graph;
-mod load;
-mod middle;
-mod node;
-mod order;
-#[cfg(test)]
-mod tests;
+mod atom;
+mod instance_use;
+mod kind;
+mod scheme;
+mod table;
 mod types;
-mod unknowns;
 
-pub use error::EquateError;
-pub use middle::{Label, MType};
-pub use types::{InstanceUse, Kind, Pred, Scheme, Ty};
-pub use unknowns::Unknowns;
+pub use atom::Atom;
+pub use instance_use::InstanceUse;
+pub use kind::{Kind, KindForm};
+pub use scheme::{Pred, Scheme};
+pub use table::{Form, Types};
+pub use types::Ty;

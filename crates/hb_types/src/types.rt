@@ -1,76 +1,68 @@
-ghost use Rattle.std.specs.Prelude.{◌≡◌, IfOk};
+ghost use Rattle.std.specs.Prelude.{◌≡◌, ◌<◌, [], ◌∷◌, length, IfOk};
+ghost use Rattle.hb_types.specs.Types as types;
+ghost use Rattle.hb_types.specs.Tables.{last_type, built, HasPartsBelow};
 
-use hb_base::{List, Memory};
-use sqlite_items::Boxed;
+use crate::atom::Atom;
+use crate::table::{Form, Types};
+use hb_base::Memory;
 use std::alloc::Global;
+use std::marker::Model;
 
-/// What a type constructor takes.
+/// A type by itself, with its own table: the last type of the table. Contracts see it by its cases, and never by its
+/// places.
 #[derive(Debug, Drop)]
-pub enum Kind {
-    Star,
-    Nat,
-    Area,
-    Arrow(Boxed<Kind>, Boxed<Kind>),
+pub struct Ty {
+    table: Types,
 }
 
-/// A type: a variable of a scheme, an unknown that is still to be found, a constructor, a number, or a type
-/// applied to one more type.
-#[derive(Debug, Drop)]
-pub enum Ty {
-    Var(u32),
-    Unknown(u64),
-    Con(u32),
-    Nat(u64),
-    Apply(Boxed<Ty>, Boxed<Ty>),
+impl Model for Ty {
+    ghost use Rattle.std.specs.Prelude.{◌<◌, length};
+    ghost use Rattle.hb_types.specs.Types.{Ty as Tree};
+    ghost use Rattle.hb_types.specs.TypeCodes.{coded_type};
+
+    ghost Value = { Tree };
+
+    ghost coded = { coded_type };
+
+    ghost use Rattle.hb_types.specs.Tables.{last_type};
+
+    ghost view = { λ t. last_type t.table };
+
+    ghost invariant = { λ t. 0 < length t.table };
 }
 
-/// A predicate on types.
-#[derive(Debug, Drop)]
-pub struct Pred {
-    pub class: u32,
-    pub args: List<Ty>,
-}
-
-/// A type with its variables, of which it says the kinds, and the predicates that it asks of them.
-#[derive(Debug, Drop)]
-pub struct Scheme {
-    pub kinds: List<Kind>,
-    pub preds: List<Pred>,
-    pub body: Ty,
-}
-
-/// How a predicate holds: the instance, the types that it is taken at, and how its context holds.
-#[derive(Debug, Drop)]
-pub struct InstanceUse {
-    pub instance: u32,
-    pub types: List<Ty>,
-    pub context: List<InstanceUse>,
+/// The table of one form without parts.
+fn single(alloc: Global, form: Form) -> Result<Types, Memory>
+    requires { HasPartsBelow 0 form }
+    ensures { IfOk result (λ table. table ≡ built [] form ∷ []) }
+{
+    let mut table = Types::new(alloc);
+    let _place = table.push(form)?;
+    Ok(table)
 }
 
 impl Ty {
-    /// `f` applied to `x`.
-    pub fn apply(alloc: Global, f: Ty, x: Ty) -> Result<Ty, Memory>
-        ensures { IfOk result (λ t. t ≡ Ty.Apply f x) }
+    /// The unknown of this number.
+    pub fn unknown(alloc: Global, number: u64) -> Result<Ty, Memory>
+        ensures built { IfOk result (λ t. t ≡ types.Unknown number) }
     {
-        let f = Boxed::new(alloc, f)?;
-        let x = Boxed::new(alloc, x)?;
-        Ok(Ty::Apply(f, x))
+        let table = single(alloc, Form::Unknown(number))?;
+        Ok(Ty { table })
     }
 
-    /// The same type again.
-    pub fn copy(&self, alloc: Global) -> Result<Ty, Memory>
-        ensures { IfOk result (λ t. t ≡ self.now) }
+    /// A type without parts.
+    pub fn leaf(alloc: Global, atom: Atom) -> Result<Ty, Memory>
+        ensures built { IfOk result (λ t. t ≡ types.Leaf atom) }
     {
-        Ok(match self {
-            Ty::Var(n) => Ty::Var(*n),
-            Ty::Unknown(n) => Ty::Unknown(*n),
-            Ty::Con(n) => Ty::Con(*n),
-            Ty::Nat(n) => Ty::Nat(*n),
-            Ty::Apply(f, x) => {
-                let f = f.get().copy(alloc)?;
-                let x = x.get().copy(alloc)?;
-                Ty::Apply(Boxed::new(alloc, f)?, Boxed::new(alloc, x)?)
-            }
-        })
+        let table = single(alloc, Form::Leaf(atom))?;
+        Ok(Ty { table })
+    }
+
+    /// The table of this type and its parts, of which it is the last.
+    pub fn table(&self) -> &Types
+        ensures some { 0 < length result.now }
+        ensures last { self.now ≡ last_type result.now }
+    {
+        &self.table
     }
 }

@@ -1,0 +1,41 @@
+-- Tables of types: each node is an unknown, an atom, or an application of two earlier nodes.
+use Rattle.std.specs.Prelude.{ℕ, ◌<◌, ◌-◌, List, [], ◌∷◌, ◌++◌, length, slice_index_or}
+use Rattle.hb_types.specs.declared.table.Form.{Form}
+use Rattle.hb_types.specs.declared.table.Form.TheVariants as form
+use Rattle.hb_types.specs.Types.{Ty, Unknown, Leaf, Apply}
+
+-- the type at a place of a table
+abbrev pub type_at : List Ty → ℕ → Ty
+type_at ts place = slice_index_or ts place (Unknown 0)
+
+-- the type of a form, with its parts from the table
+abbrev pub built : List Ty → Form → Ty
+built ts (form.Unknown n) = Unknown n
+built ts (form.Leaf a) = Leaf a
+built ts (form.Apply f x) = Apply (type_at ts f) (type_at ts x)
+
+-- the types of forms that follow those of a table
+abbrev pub types_from : List Ty → List Form → List Ty
+types_from ts [] = ts
+types_from ts (n ∷ ns) = types_from (ts ++ built ts n ∷ []) ns
+
+-- the types of forms, one after another
+abbrev pub types_of : List Form → List Ty
+types_of ns = types_from [] ns
+
+-- the parts of a form stand before a place
+abbrev pub HasPartsBelow : ℕ → Form → Type 0
+HasPartsBelow place (form.Unknown n) = Unit {0}
+HasPartsBelow place (form.Leaf a) = Unit {0}
+HasPartsBelow place (form.Apply f x) = (f < place) × (x < place)
+
+abbrev pub form_at : List Form → ℕ → Form
+form_at ns place = slice_index_or ns place (form.Unknown 0)
+
+-- each form stands after its parts
+pub record AreLaid (ns : List Form) : Type 0 where
+  pub each : (place : ℕ) → HasPartsBelow place (form_at ns place)
+
+-- the last type of a table
+abbrev pub last_type : List Ty → Ty
+last_type ts = type_at ts (length ts - 1)
