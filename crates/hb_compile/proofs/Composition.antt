@@ -11,6 +11,7 @@ use Rattle.hb_image.specs.Rules.{IsImage}
 use Rattle.hb_mach.specs.Run.{mach}
 use Rattle.hb_runs.specs.Outcome.{SameRuns}
 use Rattle.hb_runs.proofs.Through.{through}
+use Rattle.hb_runs.proofs.LawLaws.{same_runs}
 use Rattle.hb_flat.specs.declared.form.FlatBlock.{FlatBlock}
 use Rattle.hb_flat.specs.declared.form.Flat.{Flat}
 use Rattle.hb_flat.specs.Meaning.{runs}
@@ -18,7 +19,7 @@ use Rattle.hb_flat.specs.Rules.{IsFlat}
 use Rattle.hb_second.specs.declared.source.Source.{Source}
 use Rattle.hb_second.specs.Meaning.{says}
 use Rattle.hb_select.specs.Code.{parts_of, words_of}
-use Rattle.hb_select.specs.Law.{IsImageOf, KeepsLaw}
+use Rattle.hb_select.specs.Law.{IsImageOf, KeepsLaw, course_of_flat, course_of_image}
 use Rattle.hb_compile.specs.Means.{Means}
 use Rattle.hb_compile.proofs.Length.{words_short}
 
@@ -91,5 +92,6 @@ means_of source flat asm image made lowers law =
           let upper =
           subst (λ (ports : List Port). SameRuns (says source inputs) (runs flat ports inputs)) (sym made.ports)
           (lowers inputs (subst (λ (ports : List Port). AreInputs ports inputs) made.ports allowed)) in
-          through (says source inputs) (runs flat image.ports inputs) (mach image inputs) upper (law image inputs whole allowed).both;
+          through (says source inputs) (runs flat image.ports inputs) (mach image inputs) upper
+          (same_runs (course_of_flat flat image.ports inputs) (course_of_image image inputs) (law image inputs whole allowed));
     }

@@ -4,5 +4,6 @@ pub mod LittleLaws
 pub mod MemoryLaws
 pub mod PortLaws
 pub mod RunLaws
+pub mod TurnLaws
 pub mod RunningLaws
 pub mod WaitingLaws

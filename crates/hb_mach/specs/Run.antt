@@ -8,6 +8,7 @@ use Rattle.hb_base.specs.declared.step.Stop.TheVariants.{Steps}
 use Rattle.hb_image.specs.declared.image.Image.{Image}
 use Rattle.hb_runs.specs.Outcome.{Outcome}
 use Rattle.hb_runs.specs.Stepping.{after, answers}
+use Rattle.hb_runs.specs.System.{Turn, Quiet, Event, End}
 use Rattle.hb_mach.specs.State.{State, start}
 use Rattle.hb_mach.specs.Table.{table}
 
@@ -37,3 +38,13 @@ mach image lines steps = shown (start image lines) steps
 -- the number of steps done by then
 unfoldable pub steps_done : Image → List ScriptLine → ℕ → ℕ
 steps_done image lines steps = (after table steps (start image lines)).done
+
+-- a step as the turn of a system: it goes on in silence, or with an event, or the run ends. No step lacks a rule
+unfoldable pub turn_of : State × Step → Turn State Step Stop
+turn_of (s, Going) = Quiet s
+turn_of (s, Read port value) = Event (Read port value) s
+turn_of (s, Wrote port value) = Event (Wrote port value) s
+turn_of (s, Ended stop) = End stop
+
+unfoldable pub turn : State → Turn State Step Stop
+turn s = turn_of (table s)

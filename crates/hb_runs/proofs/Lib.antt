@@ -1,4 +1,11 @@
-pub mod Growth
-pub mod Stepping
+pub mod SystemLaws
 pub mod Between
+pub mod Halves
+pub mod LawLaws
 pub mod Through
+pub mod Walks
+pub mod Simulating
+pub mod Counting
+pub mod InnerLaws
+pub mod Stepping
+pub mod Examples

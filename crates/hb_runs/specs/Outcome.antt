@@ -1,5 +1,5 @@
 -- What a run has shown so far, and how what it shows may grow from one count to the next.
-use Rattle.std.specs.Prelude.{◌≡◌, ℕ, suc, ◌≤◌, List, [], ◌∷◌, ◌++◌, Option, Some, None}
+use Rattle.std.specs.Prelude.{◌≡◌, ℕ, suc, List, [], ◌∷◌, ◌++◌, Option, Some, None}
 
 -- the events so far, and the end, or none while the run is going
 pub record Outcome (E S : Type 0) : Type 0 where
@@ -20,10 +20,6 @@ pub data GrowsTo {E S : Type 0} (o p : Outcome E S) : Type 0 where
 pub record Grows {E S : Type 0} (run : ℕ → Outcome E S) : Type 0 where
   pub starts : run 0 ≡ nothing_yet
   pub grows : (n : ℕ) → GrowsTo (run n) (run (suc n))
-
--- whatever the source shows after n counts, the target shows after some count that is no smaller
-abbrev pub Follows : {E S : Type 0} → (ℕ → Outcome E S) → (ℕ → Outcome E S) → Type 0
-Follows source target = (n : ℕ) → (m : ℕ) × (n ≤ m) × (target m ≡ source n)
 
 -- each shows what the other shows
 pub record SameRuns {E S : Type 0} (source target : ℕ → Outcome E S) : Type 0 where

@@ -1,2 +1,2 @@
-//! Runs, whatever runs: outcomes by counts, how they grow, and how one direction of a simulation gives the other.
+//! Runs, whatever runs: outcomes by counts, systems by their turns and weights, and the law that a pass keeps.
 #![tactic(auto)]

@@ -118,6 +118,6 @@ sets ports stack k value left words lines s is h small v =
     ∙ ap (λ (ls : List ScriptLine). (goes_on (changed now.registers ls stored.new now), Going)) first.is.waiting in
     record {
       next = next;
-      goes = together s now next 1 1 [] [] first.goes (one_step now next Going e);
+      goes = together s now next 1 1 [] [] first.goes (one_step now next Going e tt tt);
       is = on ports stack instr left words (slice_set words k value) lines lines now.registers stored.new now first.is first.is.wide stored.is;
     }

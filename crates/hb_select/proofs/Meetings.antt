@@ -16,7 +16,7 @@ use Rattle.hb_asm.specs.InRange.{IsImmediate}
 use Rattle.hb_base.specs.declared.port.Dir.TheVariants.{In}
 use Rattle.hb_base.specs.declared.port.Port.{Port}
 use Rattle.hb_base.specs.declared.script.ScriptLine.{ScriptLine}
-use Rattle.hb_base.specs.declared.step.Step.TheVariants.{Read, Wrote, Ended}
+use Rattle.hb_base.specs.declared.step.Step.TheVariants.{Read, Wrote}
 use Rattle.hb_base.specs.declared.step.Stop.{Stop}
 use Rattle.hb_base.specs.declared.step.Stop.TheVariants.{InputEnd, Done}
 use Rattle.hb_base.specs.Ports.{IsWidth, IsPort, ArePorts}
@@ -29,7 +29,9 @@ use Rattle.hb_mach.specs.Table.{table, execute, computed, loading, loading_memor
 use Rattle.hb_mach.proofs.PortLaws.{first_value-event}
 use Rattle.hb_select.specs.Code.{load_of, store_of}
 use Rattle.hb_select.proofs.Numbers.{plus_nothing}
-use Rattle.hb_select.proofs.Goes.{Goes, one_step, together}
+use Rattle.hb_runs.specs.System.{End as TurnEnd}
+use Rattle.hb_mach.specs.Run.{turn}
+use Rattle.hb_select.proofs.Goes.{Goes, IsFine, one_step, together, nowhere, ends_now}
 use Rattle.hb_select.proofs.Frames.{no_load, no_store}
 use Rattle.hb_select.proofs.Places.{IsAt, Puts, does, on, changed, put_one, computes}
 use Rattle.hb_select.proofs.Loads.{Keeps}
@@ -155,24 +157,28 @@ takes ports stack left words lines address width place value s m found first =
     ∙ ap (λ (v : Option ℕ). reading v place (load_of width) 5 s) first
     ∙ reads_line (load_of width) place value s (load_of-extended width value m.met.wide)
     ∙ ap (λ (ls : List ScriptLine). (goes_on (changed (slice_set s.registers 5 value) (without_first place ls) s.memory s), Read place value)) m.is.waiting)
+    tt
 
 -- ---- an end
 
+-- so many instructions lead to one that ends the run
 pub record Halts (stop : Stop) (count : ℕ) (s : State) : Type 0 where
-  pub next : State
-  pub goes : Goes s count [] next
-  pub ended : next.ended ≡ Some stop
+  pub last : State
+  pub goes : Goes s count [] last
+  pub fine : IsFine last
+  pub ends : turn last ≡ TurnEnd stop
 
-halts_now : (stop : Stop) (s : State) → table s ≡ ending stop s → Halts stop 1 s
+halts_now : (stop : Stop) (s : State) → table s ≡ ending stop s → Halts stop 0 s
 halts_now stop s e = record {
-  next = record s { ended = Some stop; done = counted s.done };
-  goes = one_step s (record s { ended = Some stop; done = counted s.done }) (Ended stop) e;
-  ended = refl;
+  last = s;
+  goes = nowhere s;
+  fine = tt;
+  ends = ends_now s (record s { ended = Some stop; done = counted s.done }) stop e;
 }
 
 pub lacks : (ports : List Port) (stack : ℕ) (left : List Instr) (words : List ℕ) (lines : List ScriptLine) (address width place : ℕ) (s : State)
     → Meets ports stack (Load (load_of width) 5 5 (pos 0)) left words lines address width place s → read_at ports address width ≡ Some place → first_value place lines ≡ None
-    → Halts (InputEnd place) 1 s
+    → Halts (InputEnd place) 0 s
 lacks ports stack left words lines address width place s m found first =
     halts_now (InputEnd place) s
     (load_reads ports stack left words lines address width place s m found ∙ ap (λ (v : Option ℕ). reading v place (load_of width) 5 s) first ∙ no_line (load_of width) place s)
@@ -225,7 +231,7 @@ gives ports stack left words lines address width place value s m found v small =
     ∙ ap (λ (ls : List ScriptLine). (goes_on (changed s.registers ls s.memory s), Wrote place (value % 2 ^ (8 * width)))) m.is.waiting in
     record {
       next = next;
-      goes = one_step s next (Wrote place (value % 2 ^ (8 * width))) e;
+      goes = one_step s next (Wrote place (value % 2 ^ (8 * width))) e tt tt;
       is = on ports stack instr left words words lines lines s.registers s.memory s m.is m.is.wide m.is.frame;
     }
 
@@ -251,14 +257,15 @@ ecall_does : (s : State) → slice_index s.registers 17 ≡ 0 → execute Ecall 
 unfolding execute
 ecall_does s call = ap (λ number. ending (called number (slice_index s.registers 10)) s) call
 
-pub is_done : (ports : List Port) (stack : ℕ) (words : List ℕ) (lines : List ScriptLine) (s : State) → IsAt ports stack (OpImm Add 17 0 (pos 0) ∷ Ecall ∷ []) words lines s → Halts Done 2 s
+pub is_done : (ports : List Port) (stack : ℕ) (words : List ℕ) (lines : List ScriptLine) (s : State) → IsAt ports stack (OpImm Add 17 0 (pos 0) ∷ Ecall ∷ []) words lines s → Halts Done 1 s
 is_done ports stack words lines s is =
     let first : Puts ports stack (Ecall ∷ []) words lines 17 0 1 [] s =
     computes ports stack (OpImm Add 17 0 (pos 0)) (Ecall ∷ []) words lines 17 0 s is (omega arith, omega arith, nothing_fits) (omega arith) refl (call_does s) in
     let now = first.next in
-    let last : Halts Done 1 now = halts_now Done now (does ports stack Ecall [] words lines now first.is tt ∙ ecall_does now first.puts) in
+    let last : Halts Done 0 now = halts_now Done now (does ports stack Ecall [] words lines now first.is tt ∙ ecall_does now first.puts) in
     record {
-      next = last.next;
-      goes = together s now last.next 1 1 [] [] first.goes last.goes;
-      ended = last.ended;
+      last = last.last;
+      goes = together s now last.last 1 0 [] [] first.goes last.goes;
+      fine = last.fine;
+      ends = last.ends;
     }

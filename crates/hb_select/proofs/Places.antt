@@ -14,7 +14,7 @@ use Rattle.hb_mach.specs.Memory.{Memory}
 use Rattle.hb_mach.specs.Run.{events}
 use Rattle.hb_mach.specs.State.{State}
 use Rattle.hb_mach.specs.Table.{table, running, fetched, execute, computed, goes_on, word_at_pc}
-use Rattle.hb_select.proofs.Goes.{Goes, one_step, together}
+use Rattle.hb_select.proofs.Goes.{Goes, GoesOn, one_step, together}
 use Rattle.hb_select.proofs.Frames.{IsFrame}
 
 -- ---- lists from a place on
@@ -113,11 +113,11 @@ pub record Puts (ports : List Port) (stack : ℕ) (left : List Instr) (words : L
 
 pub put_one : (ports : List Port) (stack : ℕ) (instr : Instr) (left : List Instr) (words : List ℕ) (lines lines' : List ScriptLine) (register value : ℕ) (answer : Step) (s : State)
     → IsAt ports stack (instr ∷ left) words lines s → register < 32
-    → table s ≡ (goes_on (changed (slice_set s.registers register value) lines' s.memory s), answer)
+    → table s ≡ (goes_on (changed (slice_set s.registers register value) lines' s.memory s), answer) → GoesOn answer
     → Puts ports stack left words lines' register value 1 (events (answer ∷ [])) s
-put_one ports stack instr left words lines lines' register value answer s is r e = record {
+put_one ports stack instr left words lines lines' register value answer s is r e on_goes = record {
   next = goes_on (changed (slice_set s.registers register value) lines' s.memory s);
-  goes = one_step s (goes_on (changed (slice_set s.registers register value) lines' s.memory s)) answer e;
+  goes = one_step s (goes_on (changed (slice_set s.registers register value) lines' s.memory s)) answer e on_goes tt;
   is = on ports stack instr left words words lines lines' (slice_set s.registers register value) s.memory s is (length-set s.registers register value ∙ is.wide) is.frame;
   puts = get_or-set_same s.registers register value 0 (omega (arith, is.wide));
   others = λ q h. get_or-set_other s.registers register q value 0 h;
@@ -134,7 +134,7 @@ pub computes : (ports : List Port) (stack : ℕ) (instr : Instr) (left : List In
 computes ports stack instr left words lines register value s is range r live e =
     put_one ports stack instr left words lines lines register value Going s is r
     (does ports stack instr left words lines s is range ∙ e ∙ computed_is register value s live
-    ∙ ap (λ (ls : List ScriptLine). (goes_on (changed (slice_set s.registers register value) ls s.memory s), Going)) is.waiting)
+    ∙ ap (λ (ls : List ScriptLine). (goes_on (changed (slice_set s.registers register value) ls s.memory s), Going)) is.waiting) tt
 
 -- one register and then the same again
 pub put_again : (ports : List Port) (stack : ℕ) (left left' : List Instr) (words : List ℕ) (lines : List ScriptLine) (register v value : ℕ) (s : State)

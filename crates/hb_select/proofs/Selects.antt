@@ -1,5 +1,5 @@
 -- That every image of a program with its instructions shows what the program shows.
-use Rattle.std.proofs.Common.{◌≡◌, ℕ, suc, ◌+◌, ◌*◌, ◌≤◌, List, [], ◌∷◌, length, map, slice_get, replicate, Option, Some, refl, ap, sym, ◌∙◌, subst, arith}
+use Rattle.std.proofs.Common.{◌≡◌, ℕ, ◌*◌, ◌≤◌, List, [], ◌∷◌, length, map, slice_get, replicate, Option, Some, refl, ap, sym, ◌∙◌, subst, arith}
 use Rattle.std.specs.Prelude.{All}
 use Rattle.std.proofs.lemmas.List.{length-map, length-replicate}
 use Rattle.std.proofs.lemmas.List.Elements.{All-head}
@@ -14,20 +14,18 @@ use Rattle.hb_flat.specs.declared.form.FlatBlock.{FlatBlock}
 use Rattle.hb_flat.specs.declared.form.Flat.{Flat}
 use Rattle.hb_flat.specs.Meaning.{entered, runs, shown_from}
 use Rattle.hb_flat.specs.Rules.{IsBlock, IsStep}
-use Rattle.hb_flat.proofs.Growth.{runs-grows}
 use Rattle.hb_base.specs.Inputs.{AreInputs}
 use Rattle.hb_mach.specs.Memory.{zeroed}
 use Rattle.hb_mach.specs.Run.{mach}
 use Rattle.hb_mach.specs.State.{start}
-use Rattle.hb_mach.proofs.RunLaws.{mach-grows}
-use Rattle.hb_runs.proofs.Growth.{follows_both}
+use Rattle.hb_runs.specs.Law.{Law}
 use Rattle.hb_select.specs.Code.{code_from, block_code, program, parts_of, words_of}
-use Rattle.hb_select.specs.Weights.{weights, weighed, weighed_from}
-use Rattle.hb_select.specs.Law.{Within, Paid, KeepsLaw}
+use Rattle.hb_select.specs.Weights.{weights, weighed_from}
+use Rattle.hb_select.specs.Law.{course_of_flat, course_of_image, KeepsLaw}
 use Rattle.hb_select.proofs.Frames.{IsFrame, begins}
 use Rattle.hb_select.proofs.Places.{IsAt}
 use Rattle.hb_select.proofs.Turns.{Follows}
-use Rattle.hb_select.proofs.Simulation.{simulates, pays}
+use Rattle.hb_select.proofs.Simulation.{keeps_law}
 
 -- ---- the words of instructions
 
@@ -73,40 +71,12 @@ starts_block image lines block rules areas code is inputs = record {
 
 -- ---- the law
 
-within_block : (flat : Flat) (image : Image) (lines : List ScriptLine) (block : FlatBlock) (n : ℕ) → slice_get flat.blocks flat.entry ≡ Some block → Follows image.ports image.stack (entered block lines) (start image lines)
-    → Within flat image lines n
+block_law : (flat : Flat) (image : Image) (lines : List ScriptLine) (block : FlatBlock) → slice_get flat.blocks flat.entry ≡ Some block → Follows image.ports image.stack (entered block lines) (start image lines)
+    → Law (course_of_flat flat image.ports lines) (course_of_image image lines)
 unfolding runs shown_from weights weighed_from mach
-within_block flat image lines block n e f =
-    let s = simulates image.ports image.stack n (entered block lines) (start image lines) f in
-    record {
-      steps = s.steps;
-      same = s.same ∙ ap (λ (o : Option FlatBlock). shown_from o image.ports lines n) (sym e);
-      bounded = subst (λ (o : Option FlatBlock). s.steps ≤ weighed_from o image.ports lines n) (sym e) s.bounded;
-    }
-
-later_block : (flat : Flat) (image : Image) (lines : List ScriptLine) (block : FlatBlock) (n : ℕ) → slice_get flat.blocks flat.entry ≡ Some block → Follows image.ports image.stack (entered block lines) (start image lines)
-    → (m : ℕ) × (n ≤ m) × (mach image lines m ≡ runs flat image.ports lines n)
-unfolding runs shown_from mach
-later_block flat image lines block n e f =
-    let s = simulates image.ports image.stack n (entered block lines) (start image lines) f in
-    (s.beyond, s.later, s.still ∙ ap (λ (o : Option FlatBlock). shown_from o image.ports lines n) (sym e))
-
-next_count : (n : ℕ) → suc n ≡ n + 1
-next_count n = omega arith
-
-paid_block : (flat : Flat) (image : Image) (lines : List ScriptLine) (block : FlatBlock) (m : ℕ) → slice_get flat.blocks flat.entry ≡ Some block → Follows image.ports image.stack (entered block lines) (start image lines)
-    → Paid flat image lines m
-unfolding runs shown_from weights weighed_from mach
-paid_block flat image lines block m e f =
-    let p = pays image.ports image.stack (entered block lines) (start image lines) f m in
-    record {
-      count = p.count;
-      same = ap (λ (o : Option FlatBlock). shown_from o image.ports lines p.count) e ∙ p.same;
-      bounded = λ going.
-          let h : m + 1 ≤ weighed image.ports (suc p.count) (entered block lines) = omega (arith, p.bounded going) in
-          subst (λ n. m + 1 ≤ weights flat image.ports lines n) (next_count p.count)
-          (subst (λ (o : Option FlatBlock). m + 1 ≤ weighed_from o image.ports lines (suc p.count)) (sym e) h);
-    }
+block_law flat image lines block e f =
+    subst (λ (o : Option FlatBlock). Law (record { shows = shown_from o image.ports lines; costs = weighed_from o image.ports lines }) (course_of_image image lines)) (sym e)
+    (keeps_law image.ports image.stack (entered block lines) (start image lines) f)
 
 pub keeps : (flat : Flat) (asm : Asm) → asm.parts ≡ parts_of flat → KeepsLaw flat asm
 keeps flat asm parts image lines is inputs =
@@ -118,8 +88,4 @@ keeps flat asm parts image lines is inputs =
     let all : All (IsBlock image.ports flat.stack) (block ∷ []) = subst (λ (bs : List FlatBlock). All (IsBlock image.ports flat.stack) bs) found.2 is.fits.blocks in
     let fits : IsBlock image.ports image.stack block = subst (λ n. IsBlock image.ports n block) (sym is.stack) (All-head (IsBlock image.ports flat.stack) block [] all) in
     let follows = starts_block image lines block is.rules is.areas code fits inputs in
-    record {
-      both = follows_both (runs flat image.ports lines) (mach image lines) (runs-grows flat image.ports lines) (mach-grows image lines) (λ n. later_block flat image lines block n stands follows);
-      each_count = λ n. within_block flat image lines block n stands follows;
-      each_instruction = λ m. paid_block flat image lines block m stands follows;
-    }
+    block_law flat image lines block stands follows

@@ -1,5 +1,5 @@
 -- Each count of a flat program is done by its own instructions, of which there are no more than it weighs.
-use Rattle.std.proofs.Common.{◌≡◌, ℕ, ◌*◌, ◌%◌, ◌^◌, ◌<◌, ◌≤◌, List, [], ◌∷◌, ◌++◌, length, slice_index, slice_set, Option, Some, None, IsSome, refl, sym, ◌∙◌, subst, arith, append_assoc, length-set}
+use Rattle.std.proofs.Common.{◌≡◌, ℕ, ◌*◌, ◌%◌, ◌^◌, ◌<◌, List, [], ◌∷◌, ◌++◌, length, slice_index, slice_set, Option, Some, None, IsSome, refl, sym, ◌∙◌, subst, arith, append_assoc, length-set}
 use Rattle.std.specs.Prelude.{pos, All}
 use Rattle.std.specs.List.{flat_map}
 use Rattle.std.proofs.lemmas.List.Elements.{All-head, All-tail}
@@ -10,8 +10,7 @@ use Rattle.hb_base.specs.declared.port.Port.{Port}
 use Rattle.hb_base.specs.declared.script.ScriptLine.{ScriptLine}
 use Rattle.hb_base.specs.declared.step.Step.{Step}
 use Rattle.hb_base.specs.declared.step.Step.TheVariants.{Read, Wrote}
-use Rattle.hb_base.specs.declared.step.Stop.{Stop}
-use Rattle.hb_base.specs.declared.step.Stop.TheVariants.{InputEnd}
+use Rattle.hb_base.specs.declared.step.Stop.TheVariants.{InputEnd, Done as DoneStop}
 use Rattle.hb_base.specs.Ports.{ArePorts}
 use Rattle.hb_flat.specs.declared.form.Operand.{Operand}
 use Rattle.hb_flat.specs.declared.form.Operand.TheVariants.{Word, Number}
@@ -19,16 +18,17 @@ use Rattle.hb_flat.specs.declared.form.FlatStep.{FlatStep}
 use Rattle.hb_flat.specs.declared.form.FlatStep.TheVariants.{Set, Alu, Load, Store}
 use Rattle.hb_flat.specs.declared.form.FlatTail.{FlatTail}
 use Rattle.hb_flat.specs.declared.form.FlatTail.TheVariants.{Done}
-use Rattle.hb_flat.specs.Meaning.{Thread, Turn, Quiet, Event, End, value_of, read_at, written_at, taking, reading, writing, does, closes, next, turn}
+use Rattle.hb_flat.specs.Meaning.{Thread, Turn, value_of, read_at, written_at, taking, reading, writing, does, closes, next, turn}
 use Rattle.hb_flat.specs.Rules.{IsOperand, IsStep}
 use Rattle.hb_asm.specs.Arithmetic.{alu_of}
 use Rattle.hb_base.specs.Inputs.{first_value, without_first, AreInputs}
 use Rattle.hb_mach.specs.State.{State}
 use Rattle.hb_mach.proofs.PortLaws.{AreInputs-without_first}
 use Rattle.hb_select.specs.Code.{operand_code, put_code, load_of, store_of, step_code, tail_code, code_from}
-use Rattle.hb_select.specs.Weights.{weight, next_weight}
+use Rattle.hb_runs.specs.Simulation.{Matches as MatchesTurn}
+use Rattle.hb_select.specs.Weights.{weight, next_weight, turned}
 use Rattle.hb_select.proofs.Numbers.{alu-fits}
-use Rattle.hb_select.proofs.Goes.{Goes, together}
+use Rattle.hb_select.proofs.Goes.{Goes, IsFine, machine, at_most, together}
 use Rattle.hb_select.proofs.Frames.{IsFrame}
 use Rattle.hb_select.proofs.Places.{IsAt, Puts}
 use Rattle.hb_select.proofs.Loads.{loads, sets, Keeps}
@@ -41,27 +41,9 @@ pub record Follows (ports : List Port) (stack : ℕ) (t : Thread) (s : State) : 
   pub steps : All (IsStep ports (length t.words)) t.steps
   pub inputs : AreInputs ports t.lines
 
-pub record Moves (ports : List Port) (stack most : ℕ) (seen : List Step) (t : Thread) (s : State) : Type 0 where
-  pub next : State
-  pub count : ℕ
-  pub least : 1 ≤ count
-  pub within : count ≤ most
-  pub goes : Goes s count seen next
-  pub follows : Follows ports stack t next
-
-pub record Stops (most : ℕ) (stop : Stop) (s : State) : Type 0 where
-  pub next : State
-  pub count : ℕ
-  pub least : 1 ≤ count
-  pub within : count ≤ most
-  pub goes : Goes s count [] next
-  pub ended : next.ended ≡ Some stop
-
 -- what a count does, the machine does in so many instructions at most
 abbrev pub Matches : List Port → ℕ → ℕ → State → Turn → Type 0
-Matches ports stack most s (Quiet t) = Moves ports stack most [] t s
-Matches ports stack most s (Event event t) = Moves ports stack most (event ∷ []) t s
-Matches ports stack most s (End stop) = Stops most stop s
+Matches ports stack most s moved = MatchesTurn machine IsFine (Follows ports stack) most s (turned moved)
 
 none_is_some : IsSome {T = ℕ} None → ⊥
 none_is_some e = cc
@@ -121,7 +103,7 @@ alu_done ports stack word op a b left words lines s is h fits fits' =
 
 set_matches : (ports : List Port) (stack word : ℕ) (a : Operand) (t : Thread) (s : State)
     → Follows ports stack (record t { steps = Set word a ∷ t.steps }) s → Matches ports stack 4 s (does ports (Set word a) t)
-unfolding does
+unfolding does turned
 set_matches ports stack word a t s f =
     let ok = All-head (IsStep ports (length t.words)) (Set word a) t.steps f.steps in
     let rest = All-tail (IsStep ports (length t.words)) (Set word a) t.steps f.steps in
@@ -130,12 +112,12 @@ set_matches ports stack word a t s f =
     set_done ports stack word a (code_from t.steps t.tail) t.words t.lines s
     (again ports stack _ (step_code (Set word a) ++ code_from t.steps t.tail) t.words t.lines s (code_from-step (Set word a) t.steps t.tail) f.is) ok.0 ok.1 in
     record {
-      next = k.next;
-      count = 4;
+      turns = 4;
+      to = k.next;
       least = omega arith;
-      within = omega arith;
-      goes = k.goes;
-      follows = record {
+      walk = k.goes;
+      bounded = at_most s 4 _ (omega arith);
+      holds = record {
         is = k.is;
         rules = f.rules;
         steps = subst (λ n. All (IsStep ports n) t.steps) (sym (length-set t.words word value)) rest;
@@ -145,7 +127,7 @@ set_matches ports stack word a t s f =
 
 alu_matches : (ports : List Port) (stack word : ℕ) (op : AluOp) (a b : Operand) (t : Thread) (s : State)
     → Follows ports stack (record t { steps = Alu word op a b ∷ t.steps }) s → Matches ports stack 7 s (does ports (Alu word op a b) t)
-unfolding does
+unfolding does turned
 alu_matches ports stack word op a b t s f =
     let ok = All-head (IsStep ports (length t.words)) (Alu word op a b) t.steps f.steps in
     let rest = All-tail (IsStep ports (length t.words)) (Alu word op a b) t.steps f.steps in
@@ -154,12 +136,12 @@ alu_matches ports stack word op a b t s f =
     alu_done ports stack word op a b (code_from t.steps t.tail) t.words t.lines s
     (again ports stack _ (step_code (Alu word op a b) ++ code_from t.steps t.tail) t.words t.lines s (code_from-step (Alu word op a b) t.steps t.tail) f.is) ok.0 ok.1 ok.2 in
     record {
-      next = k.next;
-      count = 7;
+      turns = 7;
+      to = k.next;
       least = omega arith;
-      within = omega arith;
-      goes = k.goes;
-      follows = record {
+      walk = k.goes;
+      bounded = at_most s 7 _ (omega arith);
+      holds = record {
         is = k.is;
         rules = f.rules;
         steps = subst (λ n. All (IsStep ports n) t.steps) (sym (length-set t.words word value)) rest;
@@ -170,7 +152,7 @@ alu_matches ports stack word op a b t s f =
 reads_matches : (ports : List Port) (stack word address width : ℕ) (t : Thread) (s : State)
     → Follows ports stack (record t { steps = Load word (Number address) width ∷ t.steps }) s → word < length t.words → IsSome (read_at ports address width)
     → Matches ports stack 5 s (reading (read_at ports address width) word t)
-unfolding reading taking
+unfolding reading taking turned
 reads_matches ports stack word address width t s f h some = by_port (read_at ports address width) refl some
   where
     rest : All (IsStep ports (length t.words)) t.steps
@@ -192,15 +174,15 @@ reads_matches ports stack word address width t s f h some = by_port (read_at por
     by_line place found None none =
         let met = read-met ports address width place f.rules found in
         let before = first (met-small address width met) in
-        let last : Halts (InputEnd place) 1 before.next =
+        let last : Halts (InputEnd place) 0 before.next =
         lacks ports stack (put_code word ++ left) t.words t.lines address width place before.next (record { is = before.is; met = met; holds = before.puts }) found none in
         record {
-          next = last.next;
-          count = 3;
-          least = omega arith;
-          within = omega arith;
-          goes = together s before.next last.next 2 1 [] [] before.goes last.goes;
-          ended = last.ended;
+          turns = 2;
+          last = last.last;
+          walk = together s before.next last.last 2 0 [] [] before.goes last.goes;
+          good = last.fine;
+          ends = last.ends;
+          bounded = at_most s 3 _ (omega arith);
         }
     by_line place found (Some value) line =
         let met = read-met ports address width place f.rules found in
@@ -213,12 +195,12 @@ reads_matches ports stack word address width t s f h some = by_port (read_at por
         sets ports stack word value left t.words waiting taken.next taken.is h (line-fits _ ports t.lines place value f.rules f.inputs found line) taken.puts in
         let middle : Goes s 3 event taken.next = together s before.next taken.next 2 1 [] event before.goes taken.goes in
         record {
-          next = last.next;
-          count = 5;
+          turns = 5;
+          to = last.next;
           least = omega arith;
-          within = omega arith;
-          goes = together s taken.next last.next 3 2 event [] middle last.goes;
-          follows = record {
+          walk = together s taken.next last.next 3 2 event [] middle last.goes;
+          bounded = at_most s 5 _ (omega arith);
+          holds = record {
             is = last.is;
             rules = f.rules;
             steps = subst (λ n. All (IsStep ports n) t.steps) (sym (length-set t.words word value)) rest;
@@ -232,7 +214,7 @@ reads_matches ports stack word address width t s f h some = by_port (read_at por
 
 load_matches : (ports : List Port) (stack word : ℕ) (address : Operand) (width : ℕ) (t : Thread) (s : State)
     → Follows ports stack (record t { steps = Load word address width ∷ t.steps }) s → Matches ports stack 5 s (does ports (Load word address width) t)
-unfolding does
+unfolding does turned
 load_matches ports stack word (Word k) width t s f = absurd (All-head (IsStep ports (length t.words)) (Load word (Word k) width) t.steps f.steps).1
 load_matches ports stack word (Number address) width t s f =
     let ok = All-head (IsStep ports (length t.words)) (Load word (Number address) width) t.steps f.steps in
@@ -241,7 +223,7 @@ load_matches ports stack word (Number address) width t s f =
 writes_matches : (ports : List Port) (stack address width : ℕ) (a : Operand) (t : Thread) (s : State)
     → Follows ports stack (record t { steps = Store (Number address) width a ∷ t.steps }) s → IsSome (written_at ports address width) → IsOperand (length t.words) a
     → Matches ports stack 5 s (writing (written_at ports address width) (value_of t.words a % 2 ^ (8 * width)) t)
-unfolding writing
+unfolding writing turned
 writes_matches ports stack address width a t s f some fits = by_port (written_at ports address width) refl some
   where
     rest : All (IsStep ports (length t.words)) t.steps
@@ -274,17 +256,17 @@ writes_matches ports stack address width a t s f some fits = by_port (written_at
         (record { is = next.is; met = met; holds = stays next.next.registers first.next.registers address (next.others 5 (omega arith)) first.puts }) found next.puts (operand-fits stack t.words a next.next next.is.frame fits) in
         let loaded : Goes s 4 [] next.next = together s first.next next.next 2 2 [] [] first.goes next.goes in
         record {
-          next = last.next;
-          count = 5;
+          turns = 5;
+          to = last.next;
           least = omega arith;
-          within = omega arith;
-          goes = together s next.next last.next 4 1 [] event loaded last.goes;
-          follows = record { is = last.is; rules = f.rules; steps = rest; inputs = f.inputs };
+          walk = together s next.next last.next 4 1 [] event loaded last.goes;
+          bounded = at_most s 5 _ (omega arith);
+          holds = record { is = last.is; rules = f.rules; steps = rest; inputs = f.inputs };
         }
 
 store_matches : (ports : List Port) (stack : ℕ) (address : Operand) (width : ℕ) (a : Operand) (t : Thread) (s : State)
     → Follows ports stack (record t { steps = Store address width a ∷ t.steps }) s → Matches ports stack 5 s (does ports (Store address width a) t)
-unfolding does
+unfolding does turned
 store_matches ports stack (Word k) width a t s f = absurd (All-head (IsStep ports (length t.words)) (Store (Word k) width a) t.steps f.steps).0
 store_matches ports stack (Number address) width a t s f =
     let ok = All-head (IsStep ports (length t.words)) (Store (Number address) width a) t.steps f.steps in
@@ -292,10 +274,10 @@ store_matches ports stack (Number address) width a t s f =
 
 tail_matches : (ports : List Port) (stack : ℕ) (tail : FlatTail) (words : List ℕ) (lines : List ScriptLine) (s : State)
     → IsAt ports stack (code_from [] tail) words lines s → Matches ports stack 2 s (closes tail)
-unfolding closes code_from
+unfolding closes code_from turned
 tail_matches ports stack Done words lines s is =
-    let h = is_done ports stack words lines s is in
-    record { next = h.next; count = 2; least = omega arith; within = omega arith; goes = h.goes; ended = h.ended }
+    let h : Halts DoneStop 1 s = is_done ports stack words lines s is in
+    record { turns = 1; last = h.last; walk = h.goes; good = h.fine; ends = h.ends; bounded = at_most s 2 _ (omega arith) }
 
 step_matches : (ports : List Port) (stack : ℕ) (step : FlatStep) (t : Thread) (s : State)
     → Follows ports stack (record t { steps = step ∷ t.steps }) s → Matches ports stack (next_weight (step ∷ t.steps) t.tail) s (does ports step t)

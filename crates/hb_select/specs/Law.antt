@@ -1,7 +1,10 @@
 -- What it is that instructions do what a flat program does.
-use Rattle.std.specs.Prelude.{◌≡◌, ℕ, ◌+◌, ◌≤◌, List, None}
+use Rattle.std.specs.Prelude.{◌≡◌, List}
 use Rattle.hb_asm.specs.declared.part.Asm.{Asm}
+use Rattle.hb_base.specs.declared.port.Port.{Port}
 use Rattle.hb_base.specs.declared.script.ScriptLine.{ScriptLine}
+use Rattle.hb_base.specs.declared.step.Step.{Step}
+use Rattle.hb_base.specs.declared.step.Stop.{Stop}
 use Rattle.hb_image.specs.declared.image.Image.{Image}
 use Rattle.hb_image.specs.Rules.{IsImage}
 use Rattle.hb_flat.specs.declared.form.Flat.{Flat}
@@ -9,7 +12,7 @@ use Rattle.hb_flat.specs.Meaning.{runs}
 use Rattle.hb_flat.specs.Rules.{IsFlat}
 use Rattle.hb_base.specs.Inputs.{AreInputs}
 use Rattle.hb_mach.specs.Run.{mach}
-use Rattle.hb_runs.specs.Outcome.{SameRuns}
+use Rattle.hb_runs.specs.Law.{Course, Law}
 use Rattle.hb_select.specs.Code.{words_of}
 use Rattle.hb_select.specs.Weights.{weights}
 
@@ -22,25 +25,15 @@ pub record IsImageOf (flat : Flat) (asm : Asm) (image : Image) : Type 0 where
   pub code : image.code ≡ words_of asm.parts
   pub fits : IsFlat flat image.ports
 
--- after so many counts of the program the machine shows the same after no more instructions than the counts weigh
-pub record Within (flat : Flat) (image : Image) (lines : List ScriptLine) (count : ℕ) : Type 0 where
-  pub steps : ℕ
-  pub same : mach image lines steps ≡ runs flat image.ports lines count
-  pub bounded : steps ≤ weights flat image.ports lines count
+-- a flat program by its counts, and what they weigh
+abbrev pub course_of_flat : Flat → List Port → List ScriptLine → Course Step Stop
+course_of_flat flat ports lines = record { shows = runs flat ports lines; costs = weights flat ports lines }
 
--- after so many instructions the program shows the same after a count such that, while the run is going, these
--- instructions and the next one are no more than what the counts done and the next one weigh
-pub record Paid (flat : Flat) (image : Image) (lines : List ScriptLine) (steps : ℕ) : Type 0 where
-  pub count : ℕ
-  pub same : runs flat image.ports lines count ≡ mach image lines steps
-  pub bounded : (mach image lines steps).end ≡ None → steps + 1 ≤ weights flat image.ports lines (count + 1)
+-- an image by its instructions, which cost one each
+abbrev pub course_of_image : Image → List ScriptLine → Course Step Stop
+course_of_image image lines = record { shows = mach image lines; costs = λ steps. steps }
 
--- each shows what the other shows
-pub record Keeps (flat : Flat) (image : Image) (lines : List ScriptLine) : Type 0 where
-  pub both : SameRuns (runs flat image.ports lines) (mach image lines)
-  pub each_count : (count : ℕ) → Within flat image lines count
-  pub each_instruction : (steps : ℕ) → Paid flat image lines steps
-
--- on every image of the program, whatever its inputs are
+-- on every image of the program, whatever its inputs are, each shows what the other shows, within the instructions
+-- that the counts weigh
 abbrev pub KeepsLaw : Flat → Asm → Type 0
-KeepsLaw flat asm = (image : Image) (lines : List ScriptLine) → IsImageOf flat asm image → AreInputs image.ports lines → Keeps flat image lines
+KeepsLaw flat asm = (image : Image) (lines : List ScriptLine) → IsImageOf flat asm image → AreInputs image.ports lines → Law (course_of_flat flat image.ports lines) (course_of_image image lines)
