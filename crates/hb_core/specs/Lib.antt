@@ -1,0 +1,15 @@
+pub mod TypeForms
+pub mod Prims
+pub mod Values
+pub mod View
+pub mod Numbers
+pub mod Environments
+pub mod Matching
+pub mod Primitives
+pub mod Choice
+pub mod Asks
+pub mod Evaluation
+pub mod Events
+pub mod Actions
+pub mod Initialisation
+pub mod Meaning
