@@ -119,7 +119,7 @@ parts_of_a_constructor_are_bound = refl
 
 -- `bitdata S = S [ B1 | hi :: Bit 3 | lo :: Bit 4 ]`
 abbrev the_fields : List BitField
-the_fields = record { name = name 1; after = 4; width = 3; of = bit 3 } ∷ record { name = name 2; after = 0; width = 4; of = bit 4 } ∷ []
+the_fields = record { name = name 1; at = 4; width = 3; of = bit 3 } ∷ record { name = name 2; at = 0; width = 4; of = bit 4 } ∷ []
 
 abbrev s_type : BitType
 s_type = record { width = 8; constructors = 6 ∷ [] }
@@ -180,7 +180,7 @@ a_pattern_of_fields_looks_at_each = refl
 has_junk : Sample
 has_junk = record nothing_written {
   targets = is_at 1 (Primitive prim.Halt) ∷ is_at 2 (Primitive prim.OfBits) ∷ is_at 5 (Constructor 6) ∷ is_at 7 (Constructor 7) ∷ [];
-  constructors = BitCon (Fixed false ∷ Free ∷ []) (record { name = name 1; after = 0; width = 1; of = bit 1 } ∷ []) ∷ BitCon (Fixed true ∷ Fixed false ∷ []) [] ∷ [];
+  constructors = BitCon (Fixed false ∷ Free ∷ []) (record { name = name 1; at = 0; width = 1; of = bit 1 } ∷ []) ∷ BitCon (Fixed true ∷ Fixed false ∷ []) [] ∷ [];
   tops =
       row []
       (call 12 (v 1) (e 11 (expr.Case (call 4 (v 2) (e 3 (expr.Bits 2 3)))

@@ -4,3 +4,4 @@ pub mod PortExamples
 pub mod DataExamples
 pub mod CellExamples
 pub mod ClassExamples
+pub mod PrimitiveExamples

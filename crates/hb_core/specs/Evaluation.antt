@@ -143,7 +143,7 @@ field_bits f v = option_map (digits f.width) (number_of v)
 
 -- bits with a value in the place of a field
 abbrev pub with_field : Option BitField → Val → List Bool → Option (List Bool)
-with_field (Some f) v bits = option_map (λ part. place_at f.after part bits) (field_bits f v)
+with_field (Some f) v bits = option_map (λ part. place_at f.at part bits) (field_bits f v)
 with_field None v bits = None
 
 -- ---- selection

@@ -41,7 +41,7 @@ field_named name fields = find (λ f. f.name.0 == name.0) fields
 
 -- the value of a field: its bits as a value of the field's type
 abbrev pub field_value : View → List Bool → BitField → Option Val
-field_value P bits f = value_at P f.of (number (cut_at f.after f.width bits))
+field_value P bits f = value_at P f.of (number (cut_at f.at f.width bits))
 
 -- ---- literals and constructors
 

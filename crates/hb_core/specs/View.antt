@@ -36,10 +36,10 @@ pub record Instance : Type 0 where
   pub context : List Pred
   pub equations : ℕ → Option Equations
 
--- a field of a bitdata constructor: how many bits stand after it, its width, and its type
+-- a field of a bitdata constructor: `at`, how many bits stand after it, its width, and its type
 pub record BitField : Type 0 where
   pub name : Name
-  pub after : ℕ
+  pub at : ℕ
   pub width : ℕ
   pub of : Ty
 
