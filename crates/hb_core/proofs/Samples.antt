@@ -144,6 +144,11 @@ view s = record {
   pair = 5;
   nothing = 3;
   just = 4;
+  supers = λ n. [];
+  local_type = λ n. unsigned;
+  scheme = λ t. None;
+  bool_type = con 13;
+  unit_type = con 14;
 }
 
 -- ---- what it shows

@@ -13,3 +13,5 @@ pub mod Events
 pub mod Actions
 pub mod Initialisation
 pub mod Meaning
+pub mod Facts
+pub mod Entailment

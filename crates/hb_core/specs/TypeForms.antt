@@ -1,5 +1,5 @@
 -- Types by their forms, types in the place of variables, and types that are the same.
-use Rattle.std.specs.Prelude.{ℕ, zero, suc, Bool, true, false, ◌&&◌, ◌==◌, List, [], ◌∷◌, slice_index_or, Option, Some, None}
+use Rattle.std.specs.Prelude.{ℕ, zero, suc, ◌+◌, Bool, true, false, ◌&&◌, ◌==◌, List, [], ◌∷◌, slice_index_or, Option, Some, None}
 use Rattle.hb_types.specs.declared.atom.Atom.{Atom}
 use Rattle.hb_types.specs.declared.atom.Atom.TheVariants.{Var, Con, Nat}
 use Rattle.hb_types.specs.Types.{Ty, Unknown, Leaf, Apply}
@@ -39,6 +39,40 @@ tycon (suc (suc (suc (suc (suc (suc (suc (suc (suc (suc zero)))))))))) = Stored
 tycon (suc (suc (suc (suc (suc (suc (suc (suc (suc (suc (suc zero))))))))))) = BigEndian
 tycon (suc (suc (suc (suc (suc (suc (suc (suc (suc (suc (suc (suc zero)))))))))))) = Array
 tycon (suc (suc (suc (suc (suc (suc (suc (suc (suc (suc (suc (suc (suc n))))))))))))) = Declared n
+
+abbrev pub tycon_number : TyCon → ℕ
+tycon_number Unsigned = 0
+tycon_number Signed = 1
+tycon_number Bit = 2
+tycon_number Ix = 3
+tycon_number NonZero = 4
+tycon_number Action = 5
+tycon_number In = 6
+tycon_number Out = 7
+tycon_number Ref = 8
+tycon_number Arrow = 9
+tycon_number Stored = 10
+tycon_number BigEndian = 11
+tycon_number Array = 12
+tycon_number (Declared n) = n + 13
+
+abbrev pub con_type : TyCon → Ty
+con_type c = Leaf (Con (tycon_number c))
+
+abbrev pub number_type : ℕ → Ty
+number_type n = Leaf (Nat n)
+
+-- a constructor at one type
+abbrev pub at_one : TyCon → Ty → Ty
+at_one c t = Apply (con_type c) t
+
+abbrev pub arrow : Ty → Ty → Ty
+arrow a b = Apply (Apply (con_type Arrow) a) b
+
+-- from arguments to a result
+abbrev pub arrows : List Ty → Ty → Ty
+arrows [] t = t
+arrows (a ∷ as') t = arrow a (arrows as' t)
 
 -- ---- the form of a type
 

@@ -5,6 +5,7 @@ use Rattle.hb_base.specs.declared.name.Name.{Name}
 use Rattle.hb_base.specs.declared.place.Place.{Place}
 use Rattle.hb_types.specs.Types.{Ty}
 use Rattle.hb_types.specs.declared.scheme.Pred.{Pred}
+use Rattle.hb_types.specs.declared.scheme.Scheme.{Scheme}
 use Rattle.hb_tree.specs.Expressions.{Equations}
 use Rattle.hb_tree.specs.Initials.{InitExpr}
 use Rattle.hb_bits.specs.Members.{Member}
@@ -21,7 +22,7 @@ pub data Target : Type 0 where
   Area : ℕ → Target
   APort : ℕ → Target
 
--- a method: its class, the number of that class's parameters, and its place among the methods of its class
+-- a method: its class by the number that the class has in predicates, the number of that class's parameters, and its place among the methods of its class
 pub record MethodOf : Type 0 where
   pub class : ℕ
   pub parameters : ℕ
@@ -78,12 +79,19 @@ pub record View : Type 0 where
   -- the rows of a top-level definition
   pub tops : ℕ → Option Equations
   pub methods : ℕ → Option MethodOf
+  -- the context of a class over its parameters, by the number that the class has in predicates
+  pub supers : ℕ → List Pred
   pub instances : List Instance
   pub constructors : ℕ → Option Con
   -- bitdata types and structs, by the number of the declared type
   pub bit_types : ℕ → Option BitType
   pub structs : ℕ → Option (List StructField)
   pub areas : List AreaDecl
+  -- the type of a local
+  pub local_type : ℕ → Ty
+  -- the type of what a name stands for that is no local, with what it asks of its variables: of a method the class comes
+  -- first
+  pub scheme : Target → Option Scheme
   -- the number of `main` among the top-level definitions
   pub main : ℕ
   -- constructors of the prelude
@@ -91,3 +99,6 @@ pub record View : Type 0 where
   pub pair : ℕ
   pub nothing : ℕ
   pub just : ℕ
+  -- types of the prelude
+  pub bool_type : Ty
+  pub unit_type : Ty
