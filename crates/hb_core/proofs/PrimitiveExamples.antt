@@ -1,5 +1,5 @@
 -- What each primitive computes, by examples.
-use Rattle.std.proofs.Common.{◌≡◌, ℕ, List, [], ◌∷◌, Option, Some, None, true, false, refl}
+use Rattle.std.proofs.Common.{◌≡◌, List, [], ◌∷◌, Option, Some, None, true, false, refl}
 use Rattle.hb_bits.specs.Bits.{digits}
 use Rattle.hb_types.specs.Types.{Ty}
 use Rattle.hb_core.specs.Prims as prim

@@ -4,7 +4,7 @@ use Rattle.std.specs.Prelude.{ℕ, zero, suc, ◌+◌, ◌*◌, ◌^◌, ◌==�
 use Rattle.hb_types.specs.Types.{Ty}
 use Rattle.hb_types.specs.declared.scheme.Pred.{Pred}
 use Rattle.hb_core.specs.TypeForms.{Form, Of, Unsigned, Signed, Bit, Ix, Ref, Stored, BigEndian, Declared, form, type_number, number_type, same_type}
-use Rattle.hb_core.specs.View.{View, BitType}
+use Rattle.hb_core.specs.View.{View}
 
 -- the predicates in the order of their numbers: `n + m = p`, `n * m = p`, `2 ^ n = m`, `n <= m`, `Width`, `Index`,
 -- `NumLit`, `BitRep`, `Cell`, and the declared ones

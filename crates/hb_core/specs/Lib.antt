@@ -15,3 +15,6 @@ pub mod Initialisation
 pub mod Meaning
 pub mod Facts
 pub mod Entailment
+pub mod PatternTypes
+pub mod ExpressionTypes
+pub mod SourceTypes
