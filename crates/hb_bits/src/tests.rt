@@ -88,3 +88,38 @@ fn a_load_and_any_byte_first_meet_at_40(rt: HostRuntime) {
     };
     assert_eq!(rt; go.meets(stop), None);
 }
+
+#[test]
+fn a_cube_is_put_together_from_fixed_and_free_members(rt: HostRuntime) {
+    let tag = Cube::fixed(Pattern { width: 2, word: 1 });
+    let load = tag.join(Cube::free(6));
+    assert_eq!(rt;
+        load,
+        Cube {
+            width: 8,
+            mask: 0b1100_0000,
+            value: 0b0100_0000
+        }
+    );
+    assert_eq!(rt; load.first(), Some(false));
+    assert_eq!(rt; Cube::free(64).first(), None);
+}
+
+#[test]
+fn a_cube_is_taken_apart_bit_by_bit(rt: HostRuntime) {
+    let go = Cube {
+        width: 3,
+        mask: 0b101,
+        value: 0b001,
+    };
+    assert_eq!(rt; go.after(true), None);
+    assert_eq!(rt;
+        go.after(false),
+        Some(Cube {
+            width: 2,
+            mask: 1,
+            value: 1
+        })
+    );
+    assert_eq!(rt; Cube::free(64).after(true), Some(Cube::free(63)));
+}

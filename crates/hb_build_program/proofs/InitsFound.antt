@@ -43,18 +43,18 @@ fields_off fs stack = ap (λ n. off n (reverse_aux (field_init_list fs) stack) [
 
 mutual
   init_in : (s : DeclBuilder) (i : InitExpr) → IsParsedInit i → Leads s (init_nodes i) (init_on s i)
-  init_in s (Each name i) u =
+  init_in s (Each place name i) u =
       let s1 : DeclBuilder = name_on s name in
-      both stepped s s1 (init_on s (Each name i)) (named name) (init_nodes i ++ node.InitEach ∷ []) refl
-      (then stepped s1 (init_on s1 i) (init_nodes i) node.InitEach (init_in s1 i u))
-  init_in s (Fields fs) u =
+      both stepped s s1 (init_on s (Each place name i)) (named name) (init_nodes i ++ node.InitEach place ∷ []) refl
+      (then stepped s1 (init_on s1 i) (init_nodes i) (node.InitEach place) (init_in s1 i u))
+  init_in s (Fields place fs) u =
       let s1 : DeclBuilder = fields_on s (field_init_list fs) in
-      then stepped s s1 (field_init_nodes fs) (node.InitFields (fields_count fs)) (fields_in s fs u)
-      ∙ ap (of_init_fields s1) (fields_off fs s.starts.fields)
-      ∙ ap (λ l. Some (init_on s (Fields l))) (field_inits-list fs)
-  init_in s (Cell first e) u =
+      then stepped s s1 (field_init_nodes fs) (node.InitFields place (fields_count fs)) (fields_in s fs u)
+      ∙ ap (of_init_fields s1 place) (fields_off fs s.starts.fields)
+      ∙ ap (λ l. Some (init_on s (Fields place l))) (field_inits-list fs)
+  init_in s (Cell place e) u =
       let s1 : DeclBuilder = with_exprs s (with_expr_list s.exprs (e ∷ s.exprs.exprs)) in
-      then stepped s s1 (valued (expr_nodes e)) (node.InitCell first)
+      then stepped s s1 (valued (expr_nodes e)) (node.InitCell place)
       (all_valued s (Some s.exprs) (expr_nodes e) ∙ ap (in_exprs s) (expr_found s.exprs [] s.exprs e u refl))
 
   fields_in : (s : DeclBuilder) (fs : FieldInits) → AreParsedInits fs → Leads s (field_init_nodes fs) (fields_on s (field_init_list fs))

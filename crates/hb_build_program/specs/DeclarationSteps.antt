@@ -91,9 +91,9 @@ abbrev pub of_depends : DeclBuilder → ℕ → TypeBuilder → Heads → Option
 of_depends s count t h = if nat_eq count (length s.members.depends) then Some (state (types_of None t.preds t.types) s.exprs (heads h.names h.lists h.numbers h.types t.context) s.members s.starts s.decls s.whole) else None
 
 -- the last initialiser becomes that of each element, by the last name
-abbrev pub of_each : DeclBuilder → List NameAt → List InitExpr → Option DeclBuilder
-of_each s (name ∷ names) (i ∷ inits) = Some (state s.types s.exprs (with_names s.heads names) s.members (starts (Each name i ∷ inits) s.starts.fields s.starts.given) s.decls s.whole)
-of_each s _ _ = None
+abbrev pub of_each : DeclBuilder → Place → List NameAt → List InitExpr → Option DeclBuilder
+of_each s place (name ∷ names) (i ∷ inits) = Some (state s.types s.exprs (with_names s.heads names) s.members (starts (Each place name i ∷ inits) s.starts.fields s.starts.given) s.decls s.whole)
+of_each s place _ _ = None
 
 -- the last initialiser becomes that of a field, by the last name
 abbrev pub of_field : DeclBuilder → List NameAt → List InitExpr → Option DeclBuilder
@@ -101,14 +101,14 @@ of_field s (name ∷ names) (i ∷ inits) = Some (state s.types s.exprs (with_na
 of_field s _ _ = None
 
 -- the last fields become an initialiser
-abbrev pub of_init_fields : DeclBuilder → Option (List FieldInit × List FieldInit) → Option DeclBuilder
-of_init_fields s None = None
-of_init_fields s (Some fields) = in_starts s (starts (Fields (field_inits fields.0) ∷ s.starts.inits) fields.1 s.starts.given)
+abbrev pub of_init_fields : DeclBuilder → Place → Option (List FieldInit × List FieldInit) → Option DeclBuilder
+of_init_fields s place None = None
+of_init_fields s place (Some fields) = in_starts s (starts (Fields place (field_inits fields.0) ∷ s.starts.inits) fields.1 s.starts.given)
 
 -- the last expression becomes an initialiser
 abbrev pub of_cell : DeclBuilder → Place → List Expr → Option DeclBuilder
-of_cell s first (e ∷ rest) = Some (state s.types (with_exprs s.exprs rest) s.heads s.members (starts (Cell first e ∷ s.starts.inits) s.starts.fields s.starts.given) s.decls s.whole)
-of_cell s first [] = None
+of_cell s place (e ∷ rest) = Some (state s.types (with_exprs s.exprs rest) s.heads s.members (starts (Cell place e ∷ s.starts.inits) s.starts.fields s.starts.given) s.decls s.whole)
+of_cell s place [] = None
 
 -- the last initialiser is that of an area
 abbrev pub of_init : DeclBuilder → List InitExpr → Option DeclBuilder
@@ -197,10 +197,10 @@ stepped s node.StructFields = in_members s (of_struct_fields s.members s.members
 stepped s (node.StructParts count) = checked s count (length s.members.struct_parts)
 stepped s node.Depend = of_depend s (two_off s.heads.lists)
 stepped s (node.Depends count) = of_depends s count s.types s.heads
-stepped s node.InitEach = of_each s s.heads.names s.starts.inits
+stepped s (node.InitEach place) = of_each s place s.heads.names s.starts.inits
 stepped s node.InitField = of_field s s.heads.names s.starts.inits
-stepped s (node.InitFields count) = of_init_fields s (off count s.starts.fields [])
-stepped s (node.InitCell first) = of_cell s first s.exprs.exprs
+stepped s (node.InitFields place count) = of_init_fields s place (off count s.starts.fields [])
+stepped s (node.InitCell place) = of_cell s place s.exprs.exprs
 stepped s node.NoInit = in_starts s (starts s.starts.inits s.starts.fields (None ∷ s.starts.given))
 stepped s node.Init = of_init s s.starts.inits
 stepped s (node.Data place) = of_data s place s.heads s.members s.heads.names s.heads.lists

@@ -19,9 +19,9 @@ AllOf P (x ∷ xs) = P x × AllOf P xs
 
 abbrev mutual
   pub IsParsedInit : InitExpr → Type 0
-  IsParsedInit (Each name i) = IsParsedInit i
-  IsParsedInit (Fields fs) = AreParsedInits fs
-  IsParsedInit (Cell first e) = IsParsedExpr e
+  IsParsedInit (Each place name i) = IsParsedInit i
+  IsParsedInit (Fields place fs) = AreParsedInits fs
+  IsParsedInit (Cell place e) = IsParsedExpr e
 
   pub AreParsedInits : FieldInits → Type 0
   AreParsedInits NoFieldInits = Unit {0}

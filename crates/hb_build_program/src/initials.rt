@@ -11,13 +11,13 @@ use hb_tree::{FieldInit, InitExpr};
 use std::alloc::Global;
 
 impl DeclBuilder {
-    /// The last initialiser becomes that of each element, by the last name.
-    pub(crate) fn init_each(&mut self, alloc: Global) -> Result<bool, Memory>
-        ensures { IfOk result (λ taken. Stepped taken (of_each self.old self.old.heads.names self.old.starts.inits) self.new) }
+    /// The last initialiser becomes that of each element, by the last name. The word `each` stands at `place`.
+    pub(crate) fn init_each(&mut self, alloc: Global, place: Place) -> Result<bool, Memory>
+        ensures { IfOk result (λ taken. Stepped taken (of_each self.old place self.old.heads.names self.old.starts.inits) self.new) }
     {
         match (self.heads.names.pop(), self.starts.inits.pop()) {
             (Some(name), Some(init)) => {
-                self.starts.inits.push(InitExpr::each(alloc, name, init)?)?;
+                self.starts.inits.push(InitExpr::each(alloc, place, name, init)?)?;
                 Ok(true)
             }
             _ => Ok(false),
@@ -37,26 +37,31 @@ impl DeclBuilder {
         }
     }
 
-    /// The last fields, so many, become an initialiser.
-    pub(crate) fn init_fields(&mut self, alloc: Global, count: usize) -> Result<bool, Memory>
-        ensures { IfOk result (λ taken. Stepped taken (of_init_fields self.old (off count self.old.starts.fields [])) self.new) }
+    /// The last fields, so many, become an initialiser. The word `fields` stands at `place`.
+    pub(crate) fn init_fields(
+        &mut self,
+        alloc: Global,
+        place: Place,
+        count: usize,
+    ) -> Result<bool, Memory>
+        ensures { IfOk result (λ taken. Stepped taken (of_init_fields self.old place (off count self.old.starts.fields [])) self.new) }
     {
         match take_off(&mut self.starts.fields, alloc, count)? {
             Some(fields) => {
-                self.starts.inits.push(InitExpr::fields(fields))?;
+                self.starts.inits.push(InitExpr::fields(place, fields))?;
                 Ok(true)
             }
             None => Ok(false),
         }
     }
 
-    /// The last expression, whose first token stands at `first`, becomes an initialiser.
-    pub(crate) fn init_cell(&mut self, first: Place) -> Result<bool, Memory>
-        ensures { IfOk result (λ taken. Stepped taken (of_cell self.old first self.old.exprs.exprs) self.new) }
+    /// The last expression, whose first token stands at `place`, becomes an initialiser.
+    pub(crate) fn init_cell(&mut self, place: Place) -> Result<bool, Memory>
+        ensures { IfOk result (λ taken. Stepped taken (of_cell self.old place self.old.exprs.exprs) self.new) }
     {
         match self.exprs.exprs.pop() {
             Some(value) => {
-                self.starts.inits.push(InitExpr::cell(first, value))?;
+                self.starts.inits.push(InitExpr::cell(place, value))?;
                 Ok(true)
             }
             None => Ok(false),

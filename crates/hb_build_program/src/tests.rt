@@ -169,22 +169,25 @@ fn bits_and_fields_stand_in_order(rt: HostRuntime) -> Result<(), Fail> {
 /// `area 100 <- each 101 -> fields [ 102 <- 103 ] :: 104 aligned 8`.
 fn is_that_area(decl: &Decl) -> bool {
     match decl {
-        Decl::Area(_, name, Some(InitExpr { kind }), of, Some(8)) => {
-            is_name(name, 100) && is_that_init(kind) && is_con(of, 104)
+        Decl::Area(_, name, Some(init), of, Some(8)) => {
+            is_name(name, 100) && is_that_init(init) && is_con(of, 104)
         }
         _ => false,
     }
 }
 
-fn is_that_init(kind: &InitKind) -> bool {
-    match kind {
+/// The initialiser stands in column 5, its fields in column 6, and the cell in column 7.
+fn is_that_init(init: &InitExpr) -> bool {
+    match &init.kind {
         InitKind::Each(index, each) => match &each.kind {
             InitKind::Fields(fields) => match fields.as_slice() {
-                [FieldInit { name, init }] => match &init.kind {
-                    InitKind::Cell(first, cell) => {
+                [FieldInit { name, init: cell_init }] => match &cell_init.kind {
+                    InitKind::Cell(cell) => {
                         is_name(index, 101)
                             && is_name(name, 102)
-                            && *first == at(7)
+                            && init.place == at(5)
+                            && each.place == at(6)
+                            && cell_init.place == at(7)
                             && matches!(cell.kind, ExprKind::Var(Name(103)))
                     }
                     _ => false,
@@ -206,8 +209,8 @@ fn an_area_has_its_initialiser(rt: HostRuntime) -> Result<(), Fail> {
         value(103),
         DeclNode::InitCell(at(7)),
         DeclNode::InitField,
-        DeclNode::InitFields(1),
-        DeclNode::InitEach,
+        DeclNode::InitFields(at(6), 1),
+        DeclNode::InitEach(at(5)),
         DeclNode::Init,
         con(104),
         DeclNode::Number(8),
@@ -372,6 +375,6 @@ fn nodes_without_their_parts_build_none(rt: HostRuntime) -> Result<(), Fail> {
     assert!(rt; build_program(alloc, &[name(1), DeclNode::Data(at(1))])?.is_none());
     assert!(rt; build_program(alloc, &[DeclNode::Depends(usize::MAX)])?.is_none());
     assert!(rt; build_program(alloc, &[DeclNode::Equation])?.is_none());
-    assert!(rt; build_program(alloc, &[DeclNode::InitFields(usize::MAX)])?.is_none());
+    assert!(rt; build_program(alloc, &[DeclNode::InitFields(at(1), usize::MAX)])?.is_none());
     Ok(())
 }

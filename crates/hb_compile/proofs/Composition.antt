@@ -6,10 +6,16 @@ use Rattle.hb_base.specs.Ports.{ArePorts}
 use Rattle.hb_base.specs.declared.port.Port.{Port}
 use Rattle.hb_base.specs.declared.script.ScriptLine.{ScriptLine}
 use Rattle.hb_asm.specs.declared.part.Asm.{Asm}
+use Rattle.hb_asm.specs.declared.part.AsmPart.{AsmPart}
+use Rattle.hb_base.specs.declared.step.Step.{Step}
+use Rattle.hb_base.specs.declared.step.Stop.{Stop}
+use Rattle.std.proofs.lemmas.List.{length-map}
 use Rattle.hb_image.specs.declared.image.Image.{Image}
 use Rattle.hb_image.specs.Rules.{IsImage}
-use Rattle.hb_mach.specs.Run.{mach}
-use Rattle.hb_runs.specs.Outcome.{SameRuns}
+use Rattle.hb_isa.specs.State.{started}
+use Rattle.hb_mach.specs.State.{start}
+use Rattle.hb_mach.specs.Run.{mach, shown}
+use Rattle.hb_runs.specs.Outcome.{Outcome, SameRuns}
 use Rattle.hb_runs.proofs.Through.{through}
 use Rattle.hb_runs.proofs.LawLaws.{same_runs}
 use Rattle.hb_flat.specs.declared.form.FlatBlock.{FlatBlock}
@@ -18,8 +24,8 @@ use Rattle.hb_flat.specs.Meaning.{runs}
 use Rattle.hb_flat.specs.Rules.{IsFlat}
 use Rattle.hb_second.specs.declared.source.Source.{Source}
 use Rattle.hb_second.specs.Meaning.{says}
-use Rattle.hb_select.specs.Code.{parts_of, words_of}
-use Rattle.hb_select.specs.Law.{IsImageOf, KeepsLaw, course_of_flat, course_of_image}
+use Rattle.hb_select.specs.Code.{parts_of, word_of, words_of}
+use Rattle.hb_select.specs.Law.{KeepsLaw, course_of_flat, course_of_code, most_words}
 use Rattle.hb_compile.specs.Means.{Means}
 use Rattle.hb_compile.proofs.Length.{words_short}
 
@@ -70,6 +76,21 @@ image_of source flat asm image made =
       code_most = omega (arith, words, short.most);
     }
 
+-- the code of an image has a word for each part, and a run of the image is a run of that code
+few_parts : (source : Source) (flat : Flat) (asm : Asm) (image : Image) → Made source flat asm image → length asm.parts ≤ most_words
+few_parts source flat asm image made =
+    let words : length (words_of asm.parts) ≡ length (words_of (parts_of flat)) = ap (λ (parts : List AsmPart). length (words_of parts)) made.parts in
+    let short = words_short flat made.fits.single made.fits.entry made.few in
+    omega (arith, words, short.most, length-map asm.parts word_of)
+
+image_runs : (source : Source) (flat : Flat) (asm : Asm) (image : Image) (inputs : List ScriptLine) → Made source flat asm image
+    → mach image inputs ≡ shown (started (words_of asm.parts) image.ports 0 flat.stack inputs)
+unfolding mach start
+image_runs source flat asm image inputs made =
+    ap (λ (code : List ℕ). shown (started code image.ports image.areas image.stack inputs)) made.code
+    ∙ ap (λ (areas : ℕ). shown (started (words_of asm.parts) image.ports areas image.stack inputs)) made.areas
+    ∙ ap (λ (stack : ℕ). shown (started (words_of asm.parts) image.ports 0 stack inputs)) made.stack
+
 pub means_of :
     (source : Source) (flat : Flat) (asm : Asm) (image : Image)
     → Made source flat asm image
@@ -77,13 +98,6 @@ pub means_of :
     → KeepsLaw flat asm
     → Means source image
 means_of source flat asm image made lowers law =
-    let whole : IsImageOf flat asm image = record {
-      rules = image_of source flat asm image made;
-      areas = made.areas;
-      stack = made.stack;
-      code = made.code;
-      fits = subst (λ (ports : List Port). IsFlat flat ports) (sym made.ports) made.fits;
-    } in
     record {
       ports = made.ports;
       areas = made.areas;
@@ -92,6 +106,10 @@ means_of source flat asm image made lowers law =
           let upper =
           subst (λ (ports : List Port). SameRuns (says source inputs) (runs flat ports inputs)) (sym made.ports)
           (lowers inputs (subst (λ (ports : List Port). AreInputs ports inputs) made.ports allowed)) in
-          through (says source inputs) (runs flat image.ports inputs) (mach image inputs) upper
-          (same_runs (course_of_flat flat image.ports inputs) (course_of_image image inputs) (law image inputs whole allowed));
+          let fits : IsFlat flat image.ports = subst (λ (ports : List Port). IsFlat flat ports) (sym made.ports) made.fits in
+          let code = law image.ports inputs fits (few_parts source flat asm image made) allowed in
+          let lower =
+          subst (λ (run : ℕ → Outcome Step Stop). SameRuns (runs flat image.ports inputs) run) (sym (image_runs source flat asm image inputs made))
+          (same_runs (course_of_flat flat image.ports inputs) (course_of_code (words_of asm.parts) image.ports flat.stack inputs) code) in
+          through (says source inputs) (runs flat image.ports inputs) (mach image inputs) upper lower;
     }

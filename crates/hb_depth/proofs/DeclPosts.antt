@@ -27,9 +27,9 @@ use Rattle.hb_read_declarations.specs.declared.node.DeclNode.{DeclNode}
 use Rattle.hb_read_declarations.specs.declared.node.DeclNode.TheVariants as node
 use Rattle.hb_read_declarations.specs.Nodes.{counted, closed as closing, typed, valued, type_of, pred_of, context_whole, named, names_of, number_of, sig_of, data_con_of, fields_of, bit_part_of, bit_con_of, struct_part_of, depend_of, bind_of, init_nodes, field_init_nodes, fields_count, start_of, decl_nodes, program_nodes}
 use Rattle.hb_depth.specs.declared.shape.Shape.{Shape}
-use Rattle.hb_depth.specs.declared.shape.Kind.TheVariants.{Levels, Member as MemberKind}
-use Rattle.hb_depth.specs.Shapes.{shapes, shape, unplaced, hidden as hidden_shape, members, decl_shape}
-use Rattle.hb_depth.specs.Forms.{Form, Members, Forms, MoreForms, leaf, hidden, one, two, three, four, and, forms, type_form, pred_form, context_form, expr_form, rows_forms, name_form, names_form, types_form, sig_form, row_of, equation_form, data_con_form, fields_form, bit_part_form, bit_con_form, struct_part_form, depend_form, init_form, field_inits_forms, start_form, decl_form, program_form}
+use Rattle.hb_depth.specs.declared.shape.Kind.TheVariants.{Levels}
+use Rattle.hb_depth.specs.Shapes.{shapes, shape, unplaced, hidden as hidden_shape, decl_shape}
+use Rattle.hb_depth.specs.Forms.{Form, Forms, MoreForms, leaf, hidden, one, two, three, four, and, forms, type_form, pred_form, context_form, expr_form, rows_forms, name_form, names_form, types_form, sig_form, row_of, equation_form, data_con_form, fields_form, bit_part_form, bit_con_form, struct_part_form, depend_form, init_form, field_inits_forms, start_form, decl_form, program_form}
 use Rattle.hb_depth.specs.Written.{IsOneRow, AreWrittenEquations, IsWrittenInit, AreWrittenInits, IsWrittenStart, IsWrittenDecl, AreWrittenDecls, IsWrittenProgram}
 use Rattle.hb_depth.proofs.Posts.{count, post, all_post}
 use Rattle.hb_depth.proofs.FormLaws.{and_post}
@@ -91,7 +91,7 @@ types_post ts rest = closed_post type_of type_form node.Types type_post (λ n. r
 
 sig_post : (s : Sig) → Posts (sig_of s) (sig_form s)
 sig_post s rest =
-    behind (names_of s.names ++ typed (context_nodes s.context ++ type_nodes s.body)) (three (names_form s.names) (context_form s.context) (type_form s.body)) (node.Sig s.place) (shape MemberKind (Some s.place) 3)
+    behind (names_of s.names ++ typed (context_nodes s.context ++ type_nodes s.body)) (three (names_form s.names) (context_form s.context) (type_form s.body)) (node.Sig s.place) (shape (Levels 1) (Some s.place) 3)
     (both (names_of s.names) (typed (context_nodes s.context ++ type_nodes s.body)) (one (names_form s.names)) (two (context_form s.context) (type_form s.body)) (names_post s.names)
     (λ r. typed_append (context_nodes s.context) (type_nodes s.body) r ∙ context_post s.context (shapes (typed (type_nodes s.body)) r) ∙ ap (λ q. post (context_form s.context) q) (type_post s.body r)))
     refl rest
@@ -132,13 +132,13 @@ equations_post : (bs : List Bind) → AreWrittenEquations bs → AllPosts (count
 equations_post [] w rest = refl
 equations_post (b ∷ bs) w rest = both (bind_of b) (counted bind_of bs).nodes (one (equation_form b)) (forms equation_form bs) (equation_post b w.0) (equations_post bs w.1) rest
 
-group_post : (bs : List Bind) → AreWrittenEquations bs → Posts (closing node.Equations (counted bind_of bs)) (Members (forms equation_form bs))
+group_post : (bs : List Bind) → AreWrittenEquations bs → Posts (closing node.Equations (counted bind_of bs)) (hidden (forms equation_form bs))
 group_post bs w rest =
-    behind (counted bind_of bs).nodes (forms equation_form bs) (node.Equations (counted bind_of bs).count) (members (count (forms equation_form bs))) (equations_post bs w) (ap members (counted_count bind_of equation_form bs)) rest
+    behind (counted bind_of bs).nodes (forms equation_form bs) (node.Equations (counted bind_of bs).count) (hidden_shape (count (forms equation_form bs))) (equations_post bs w) (ap hidden_shape (counted_count bind_of equation_form bs)) rest
 
-sigs_post : (sigs : List Sig) → Posts (closing node.Sigs (counted sig_of sigs)) (Members (forms sig_form sigs))
+sigs_post : (sigs : List Sig) → Posts (closing node.Sigs (counted sig_of sigs)) (hidden (forms sig_form sigs))
 sigs_post sigs rest =
-    behind (counted sig_of sigs).nodes (forms sig_form sigs) (node.Sigs (counted sig_of sigs).count) (members (count (forms sig_form sigs))) (counted_post sig_of sig_form sig_post sigs) (ap members (counted_count sig_of sig_form sigs)) rest
+    behind (counted sig_of sigs).nodes (forms sig_form sigs) (node.Sigs (counted sig_of sigs).count) (hidden_shape (count (forms sig_form sigs))) (counted_post sig_of sig_form sig_post sigs) (ap hidden_shape (counted_count sig_of sig_form sigs)) rest
 
 -- Initialisers.
 
@@ -148,9 +148,9 @@ inits_counted (MoreFieldInits name i fs) = omega (arith, inits_counted fs)
 
 mutual
   init_post : (i : InitExpr) → IsWrittenInit i → Posts (init_nodes i) (init_form i)
-  init_post (Each name i) w rest = behind_two (named name) (init_nodes i) (one leaf) (one (init_form i)) node.InitEach (unplaced 2) (named_post name) (init_post i w) refl rest
-  init_post (Fields fs) w rest = behind (field_init_nodes fs) (field_inits_forms fs) (node.InitFields (fields_count fs)) (unplaced (count (field_inits_forms fs))) (inits_post fs w) (ap unplaced (inits_counted fs)) rest
-  init_post (Cell first e) w rest = behind (valued (expr_nodes e)) (one (expr_form e)) (node.InitCell first) (shape (Levels 1) (Some first) 1) (expr_put e w []) refl rest
+  init_post (Each place name i) w rest = behind_two (named name) (init_nodes i) (one leaf) (one (init_form i)) (node.InitEach place) (shape (Levels 1) (Some place) 2) (named_post name) (init_post i w) refl rest
+  init_post (Fields place fs) w rest = behind (field_init_nodes fs) (field_inits_forms fs) (node.InitFields place (fields_count fs)) (shape (Levels 1) (Some place) (count (field_inits_forms fs))) (inits_post fs w) (ap (shape (Levels 1) (Some place)) (inits_counted fs)) rest
+  init_post (Cell place e) w rest = behind (valued (expr_nodes e)) (one (expr_form e)) (node.InitCell place) (shape (Levels 1) (Some place) 1) (expr_put e w []) refl rest
 
   inits_post : (fs : FieldInits) → AreWrittenInits fs → AllPosts (field_init_nodes fs) (field_inits_forms fs)
   inits_post NoFieldInits w rest = refl
@@ -196,11 +196,11 @@ decl_post (decl.Area place name init a align) w =
 decl_post (decl.Port place name dir a width k) w =
     behind_two (named name) (type_of a) (one leaf) (one (type_form a)) (node.Port place dir width k) (shape (Levels 1) (Some place) 2) (named_post name) (type_post a) refl
 decl_post (decl.Class place ps name params ds sigs) w =
-    behind ((typed (context_nodes ps) ++ (named name ++ names_of params)) ++ (closing node.Depends (counted depend_of ds) ++ closing node.Sigs (counted sig_of sigs))) (MoreForms (context_form ps) (four leaf (names_form params) (hidden (forms depend_form ds)) (Members (forms sig_form sigs)))) (node.Class place) (shape (Levels 1) (Some place) 5)
-    (five_posts (typed (context_nodes ps)) (named name) (names_of params) (closing node.Depends (counted depend_of ds)) (closing node.Sigs (counted sig_of sigs)) (context_form ps) leaf (names_form params) (hidden (forms depend_form ds)) (Members (forms sig_form sigs)) (context_post ps) (named_post name) (names_post params) (closed_post depend_of depend_form node.Depends depend_post (λ n. refl) ds) (sigs_post sigs)) refl
+    behind ((typed (context_nodes ps) ++ (named name ++ names_of params)) ++ (closing node.Depends (counted depend_of ds) ++ closing node.Sigs (counted sig_of sigs))) (MoreForms (context_form ps) (four leaf (names_form params) (hidden (forms depend_form ds)) (hidden (forms sig_form sigs)))) (node.Class place) (shape (Levels 1) (Some place) 5)
+    (five_posts (typed (context_nodes ps)) (named name) (names_of params) (closing node.Depends (counted depend_of ds)) (closing node.Sigs (counted sig_of sigs)) (context_form ps) leaf (names_form params) (hidden (forms depend_form ds)) (hidden (forms sig_form sigs)) (context_post ps) (named_post name) (names_post params) (closed_post depend_of depend_form node.Depends depend_post (λ n. refl) ds) (sigs_post sigs)) refl
 decl_post (decl.Instance place name ts ps rows) w =
-    behind (named name ++ (closing node.Types (counted type_of ts) ++ (closing context_whole (counted pred_of ps) ++ closing node.Equations (counted bind_of rows)))) (four leaf (types_form ts) (context_form ps) (Members (forms equation_form rows))) (node.Instance place) (shape (Levels 1) (Some place) 4)
-    (four_posts (named name) (closing node.Types (counted type_of ts)) (closing context_whole (counted pred_of ps)) (closing node.Equations (counted bind_of rows)) leaf (types_form ts) (context_form ps) (Members (forms equation_form rows)) (named_post name) (types_post ts) (context_closed ps) (group_post rows w)) refl
+    behind (named name ++ (closing node.Types (counted type_of ts) ++ (closing context_whole (counted pred_of ps) ++ closing node.Equations (counted bind_of rows)))) (four leaf (types_form ts) (context_form ps) (hidden (forms equation_form rows))) (node.Instance place) (shape (Levels 1) (Some place) 4)
+    (four_posts (named name) (closing node.Types (counted type_of ts)) (closing context_whole (counted pred_of ps)) (closing node.Equations (counted bind_of rows)) leaf (types_form ts) (context_form ps) (hidden (forms equation_form rows)) (named_post name) (types_post ts) (context_closed ps) (group_post rows w)) refl
 
 decls_post : (ds : List Decl) → AreWrittenDecls ds → AllPosts (counted decl_nodes ds).nodes (forms decl_form ds)
 decls_post [] w rest = refl

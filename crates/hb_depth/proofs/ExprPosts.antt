@@ -11,7 +11,7 @@ use Rattle.hb_read_expressions.specs.declared.node.ExprNode.TheVariants as node
 use Rattle.hb_read_expressions.specs.Nodes.{wrapped, put, put_pat, put_pats, pats_from, exprs_from, fields_from, alts_from, stmts_from, rows_from, binds_from, put_expr, put_kind, put_run, puts, put_fields, put_alts, put_stmts, put_binds, put_rows}
 use Rattle.hb_read_declarations.specs.Nodes.{valued}
 use Rattle.hb_depth.specs.declared.shape.Shape.{Shape}
-use Rattle.hb_depth.specs.declared.shape.Kind.TheVariants.{Levels, Member as MemberKind}
+use Rattle.hb_depth.specs.declared.shape.Kind.TheVariants.{Levels}
 use Rattle.hb_depth.specs.Shapes.{shapes, shape, plain, hidden, expr_shape}
 use Rattle.hb_depth.specs.Forms.{Form, Whole, Forms, NoForms, MoreForms, one, two, three, and, forms, pat_form, expr_form, expr_kind_form, exprs_forms, run_forms, fields_forms, alts_forms, stmts_forms, binds_forms, rows_forms}
 use Rattle.hb_depth.specs.Written.{IsNone, IsOneMore, IsWritten, IsWrittenKind, AreWritten, AreWrittenFields, AreWrittenAlts, AreWrittenStmts, AreWrittenBinds, AreWrittenRows}
@@ -201,5 +201,5 @@ mutual
   rows_put (MoreEquations ps first e bs rows) name place w out rest =
       rows_put rows name place w.2 (put (put_binds bs (put_expr e (put_pats ps out))) (node.Row name place (pats_from 0 ps) first (binds_from 0 bs))) rest
       ∙ valued_append (put_binds bs (put_expr e (put_pats ps out))) (node.Row name place (pats_from 0 ps) first (binds_from 0 bs) ∷ []) (all_post (rows_forms place rows) rest)
-      ∙ both (put_pats ps) (λ o. put_binds bs (put_expr e o)) (forms pat_form ps) (MoreForms (expr_form e) (binds_forms bs)) (pats_put ps) (both (put_expr e) (put_binds bs) (one (expr_form e)) (binds_forms bs) (expr_put e w.0) (binds_put bs w.1)) out (shape MemberKind (Some place) (pats_from 0 ps + 1 + binds_from 0 bs) ∷ all_post (rows_forms place rows) rest)
-      ∙ ap (λ n. shapes (valued out) (all_post (and (forms pat_form ps) (MoreForms (expr_form e) (binds_forms bs))) (shape MemberKind (Some place) n ∷ all_post (rows_forms place rows) rest))) (row_count ps e bs)
+      ∙ both (put_pats ps) (λ o. put_binds bs (put_expr e o)) (forms pat_form ps) (MoreForms (expr_form e) (binds_forms bs)) (pats_put ps) (both (put_expr e) (put_binds bs) (one (expr_form e)) (binds_forms bs) (expr_put e w.0) (binds_put bs w.1)) out (shape (Levels 1) (Some place) (pats_from 0 ps + 1 + binds_from 0 bs) ∷ all_post (rows_forms place rows) rest)
+      ∙ ap (λ n. shapes (valued out) (all_post (and (forms pat_form ps) (MoreForms (expr_form e) (binds_forms bs))) (shape (Levels 1) (Some place) n ∷ all_post (rows_forms place rows) rest))) (row_count ps e bs)

@@ -4,10 +4,10 @@ use Rattle.hb_depth.specs.declared.chain.Chain.{Chain}
 use Rattle.hb_depth.specs.declared.chain.Chain.TheVariants as chain
 use Rattle.hb_depth.specs.declared.mark.Mark.{Mark}
 use Rattle.hb_depth.specs.declared.shape.Shape.{Shape}
-use Rattle.hb_depth.specs.declared.shape.Kind.TheVariants.{Levels, Apply, Arrow, Member as MemberKind}
-use Rattle.hb_depth.specs.Shapes.{shape, members}
+use Rattle.hb_depth.specs.declared.shape.Kind.TheVariants.{Levels, Apply, Arrow}
+use Rattle.hb_depth.specs.Shapes.{shape}
 use Rattle.hb_depth.specs.Marking.{dropped, marked}
-use Rattle.hb_depth.specs.Forms.{Form, Whole, Applied, Arrowed, Member, Members, Forms, NoForms, MoreForms}
+use Rattle.hb_depth.specs.Forms.{Form, Whole, Applied, Arrowed, Forms, NoForms, MoreForms}
 use Rattle.hb_depth.proofs.Posts.{count, post, all_post, chain_of, chains_of, marks_of, all_marks}
 
 count_moved : (m n : ℕ) → (m + 1) + n ≡ m + suc n
@@ -39,12 +39,6 @@ mutual
   form_marked (Arrowed place a b) chains marks rest =
       form_marked a chains marks (post b (shape Arrow (Some place) 2 ∷ rest))
       ∙ form_marked b (chain_of a ∷ chains) (marks_of a marks) (shape Arrow (Some place) 2 ∷ rest)
-  form_marked (Member place parts) chains marks rest =
-      forms_marked parts chains marks (shape MemberKind (Some place) (count parts) ∷ rest)
-      ∙ closing parts chains (marks_of (Member place parts) marks) rest
-  form_marked (Members parts) chains marks rest =
-      forms_marked parts chains marks (members (count parts) ∷ rest)
-      ∙ closing parts chains (marks_of (Members parts) marks) rest
 
   forms_marked : (fs : Forms) (chains : List Chain) (marks : List Mark) (rest : List Shape) → marked chains marks (all_post fs rest) ≡ marked (chains_of fs chains) (all_marks fs marks) rest
   forms_marked NoForms chains marks rest = refl

@@ -4,10 +4,10 @@ use Rattle.hb_depth.specs.declared.chain.Chain.{Chain}
 use Rattle.hb_depth.specs.declared.chain.Chain.TheVariants as chain
 use Rattle.hb_depth.specs.declared.mark.Mark.{Mark}
 use Rattle.hb_depth.specs.declared.shape.Shape.{Shape}
-use Rattle.hb_depth.specs.declared.shape.Kind.TheVariants.{Levels, Apply, Arrow, Member as MemberKind}
-use Rattle.hb_depth.specs.Shapes.{shape, members}
+use Rattle.hb_depth.specs.declared.shape.Kind.TheVariants.{Levels, Apply, Arrow}
+use Rattle.hb_depth.specs.Shapes.{shape}
 use Rattle.hb_depth.specs.Marking.{capped, arguments_in, arrows_in, mark}
-use Rattle.hb_depth.specs.Forms.{Form, Whole, Applied, Arrowed, Member, Members, Forms, NoForms, MoreForms}
+use Rattle.hb_depth.specs.Forms.{Form, Whole, Applied, Arrowed, Forms, NoForms, MoreForms}
 
 abbrev pub count : Forms → ℕ
 count NoForms = 0
@@ -19,8 +19,6 @@ abbrev mutual
   post (Whole k place parts) rest = all_post parts (shape (Levels k) place (count parts) ∷ rest)
   post (Applied place f x) rest = post f (post x (shape Apply (Some place) 2 ∷ rest))
   post (Arrowed place a b) rest = post a (post b (shape Arrow (Some place) 2 ∷ rest))
-  post (Member place parts) rest = all_post parts (shape MemberKind (Some place) (count parts) ∷ rest)
-  post (Members parts) rest = all_post parts (members (count parts) ∷ rest)
 
   pub all_post : Forms → List Shape → List Shape
   all_post NoForms rest = rest
@@ -32,8 +30,6 @@ abbrev pub chain_of : Form → Chain
 chain_of (Applied place f x) = chain.Apply (capped (arguments_in (Some (chain_of f)) + 1))
 chain_of (Arrowed place a b) = chain.Arrow (capped (arrows_in (Some (chain_of b)) + 1))
 chain_of (Whole k place parts) = chain.Other
-chain_of (Member place parts) = chain.Other
-chain_of (Members parts) = chain.Other
 
 abbrev pub chains_of : Forms → List Chain → List Chain
 chains_of NoForms chains = chains
@@ -45,8 +41,6 @@ abbrev mutual
   marks_of (Whole k place parts) marks = mark (shape (Levels k) place (count parts)) k ∷ all_marks parts marks
   marks_of (Applied place f x) marks = mark (shape Apply (Some place) 2) (capped (arguments_in (Some (chain_of f)) + 1)) ∷ marks_of x (marks_of f marks)
   marks_of (Arrowed place a b) marks = mark (shape Arrow (Some place) 2) (capped (arrows_in (Some (chain_of b)) + 1)) ∷ marks_of b (marks_of a marks)
-  marks_of (Member place parts) marks = mark (shape MemberKind (Some place) (count parts)) 1 ∷ all_marks parts marks
-  marks_of (Members parts) marks = mark (members (count parts)) 0 ∷ all_marks parts marks
 
   pub all_marks : Forms → List Mark → List Mark
   all_marks NoForms marks = marks

@@ -3,12 +3,12 @@ use Rattle.std.proofs.Common.{◌≡◌, ℕ, zero, suc, ◌+◌, ◌-◌, Bool,
 use Rattle.hb_base.specs.declared.place.Place.{Place}
 use Rattle.hb_depth.specs.declared.mark.Mark.{Mark}
 use Rattle.hb_depth.specs.declared.shape.Around.{Around}
-use Rattle.hb_depth.specs.declared.shape.Around.TheVariants.{Other, Head, Right, Among}
+use Rattle.hb_depth.specs.declared.shape.Around.TheVariants.{Other, Head, Right}
 use Rattle.hb_depth.specs.declared.walk.Level.{Level}
 use Rattle.hb_depth.specs.Marking.{capped, arguments_in, arrows_in}
 use Rattle.hb_depth.specs.Walking.{first_from, earlier, under, noted, level, pushed, kept, walked}
-use Rattle.hb_depth.specs.Depth.{arguments, arrows, is_head, is_right, is_among, below, itself, deep, all_deep}
-use Rattle.hb_depth.specs.Forms.{Form, Whole, Applied, Arrowed, Member, Members, Forms, NoForms, MoreForms}
+use Rattle.hb_depth.specs.Depth.{arguments, arrows, is_head, is_right, below, itself, deep, all_deep}
+use Rattle.hb_depth.specs.Forms.{Form, Whole, Applied, Arrowed, Forms, NoForms, MoreForms}
 use Rattle.hb_depth.proofs.Posts.{count, chain_of, marks_of, all_marks}
 
 -- Numbers of levels up to the greatest one.
@@ -33,9 +33,6 @@ pub under_plain : (joined : Bool) (depth levels : ℕ) → under joined (capped 
 under_plain true depth levels = refl
 under_plain false depth levels = capped_sum depth levels
 
-under_none : (depth : ℕ) → under false (capped depth) 0 ≡ capped depth
-under_none depth = capped_sum depth 0 ∙ ap capped (add-zero depth)
-
 pub under_capped : (joined : Bool) (depth levels : ℕ) → under joined (capped depth) (capped levels) ≡ capped (below joined depth levels)
 under_capped true depth levels = refl
 under_capped false depth levels = capped_sums depth levels
@@ -43,15 +40,11 @@ under_capped false depth levels = capped_sums depth levels
 arguments_found : (f : Form) → arguments_in (Some (chain_of f)) ≡ capped (arguments f)
 arguments_found (Whole k place parts) = sym capped_zero
 arguments_found (Arrowed place a b) = sym capped_zero
-arguments_found (Member place parts) = sym capped_zero
-arguments_found (Members parts) = sym capped_zero
 arguments_found (Applied place f x) = ap (λ n. capped (n + 1)) (arguments_found f) ∙ capped_sum (arguments f) 1
 
 arrows_found : (f : Form) → arrows_in (Some (chain_of f)) ≡ capped (arrows f)
 arrows_found (Whole k place parts) = sym capped_zero
 arrows_found (Applied place f x) = sym capped_zero
-arrows_found (Member place parts) = sym capped_zero
-arrows_found (Members parts) = sym capped_zero
 arrows_found (Arrowed place a b) = ap (λ n. capped (n + 1)) (arrows_found b) ∙ capped_sum (arrows b) 1
 
 -- the levels of an application and of an arrow, as they are marked
@@ -121,8 +114,8 @@ mutual
   pub form_walked : (f : Form) (n depth : ℕ) (around : Around) (levels : List Level) (best : Option Place) (marks : List Mark) → walked (level (suc n) (capped depth) around ∷ levels) best (marks_of f marks) ≡ walked (pushed n (capped depth) around levels) (first_from best (deep around depth f)) marks
   form_walked (Whole k place parts) n depth around levels best marks =
       opens (count parts) (under false (capped depth) k) (capped (depth + k)) n (capped depth) Other around levels (noted false (capped depth) place best) (first_from best (itself false depth place)) (all_marks parts marks) (under_plain false depth k) (noted_itself false depth place best)
-      ∙ forms_walked parts 0 (depth + k) Other (pushed n (capped depth) around levels) (first_from best (itself false depth place)) marks
-      ∙ joined (pushed n (capped depth) around levels) best (itself false depth place) (all_deep Other (depth + k) parts) marks
+      ∙ forms_walked parts 0 (depth + k) (pushed n (capped depth) around levels) (first_from best (itself false depth place)) marks
+      ∙ joined (pushed n (capped depth) around levels) best (itself false depth place) (all_deep (depth + k) parts) marks
   form_walked (Applied place f x) n depth around levels best marks =
       opens_two (under (is_head around) (capped depth) (capped (arguments_in (Some (chain_of f)) + 1))) (capped (below (is_head around) depth (arguments f + 1))) n (capped depth) Other Head around levels (noted (is_head around) (capped depth) (Some place) best) (first_from best (itself (is_head around) depth (Some place))) (marks_of x (marks_of f marks)) (ap (λ k. under (is_head around) (capped depth) k) (applied_levels f x place) ∙ under_capped (is_head around) depth (arguments f + 1)) (noted_itself (is_head around) depth (Some place) best)
       ∙ form_walked x 0 (below (is_head around) depth (arguments f + 1)) Other (level 1 (capped (below (is_head around) depth (arguments f + 1))) Head ∷ pushed n (capped depth) around levels) (first_from best (itself (is_head around) depth (Some place))) (marks_of f marks)
@@ -133,18 +126,11 @@ mutual
       ∙ form_walked b 0 (below (is_right around) depth (arrows b + 1)) Right (level 1 (capped (below (is_right around) depth (arrows b + 1))) Other ∷ pushed n (capped depth) around levels) (first_from best (itself (is_right around) depth (Some place))) (marks_of a marks)
       ∙ form_walked a 0 (below (is_right around) depth (arrows b + 1)) Other (pushed n (capped depth) around levels) (first_from (first_from best (itself (is_right around) depth (Some place))) (deep Right (below (is_right around) depth (arrows b + 1)) b)) marks
       ∙ joined_two (pushed n (capped depth) around levels) best (itself (is_right around) depth (Some place)) (deep Right (below (is_right around) depth (arrows b + 1)) b) (deep Other (below (is_right around) depth (arrows b + 1)) a) marks
-  form_walked (Member place parts) n depth around levels best marks =
-      opens (count parts) (under (is_among around) (capped depth) 1) (capped (below (is_among around) depth 1)) n (capped depth) Other around levels (noted (is_among around) (capped depth) (Some place) best) (first_from best (itself (is_among around) depth (Some place))) (all_marks parts marks) (under_plain (is_among around) depth 1) (noted_itself (is_among around) depth (Some place) best)
-      ∙ forms_walked parts 0 (below (is_among around) depth 1) Other (pushed n (capped depth) around levels) (first_from best (itself (is_among around) depth (Some place))) marks
-      ∙ joined (pushed n (capped depth) around levels) best (itself (is_among around) depth (Some place)) (all_deep Other (below (is_among around) depth 1) parts) marks
-  form_walked (Members parts) n depth around levels best marks =
-      opens (count parts) (under false (capped depth) 0) (capped depth) n (capped depth) Among around levels best best (all_marks parts marks) (under_none depth) refl
-      ∙ forms_walked parts 0 depth Among (pushed n (capped depth) around levels) best marks
 
-  pub forms_walked : (fs : Forms) (n depth : ℕ) (around : Around) (levels : List Level) (best : Option Place) (marks : List Mark) → walked (pushed (count fs + n) (capped depth) around levels) best (all_marks fs marks) ≡ walked (pushed n (capped depth) around levels) (first_from best (all_deep around depth fs)) marks
-  forms_walked NoForms n depth around levels best marks = ap (λ m. walked (pushed m (capped depth) around levels) best marks) (zero-add n)
-  forms_walked (MoreForms f fs) n depth around levels best marks =
-      ap (λ m. walked (pushed m (capped depth) around levels) best (all_marks fs (marks_of f marks))) (count_moved (count fs) n)
-      ∙ forms_walked fs (suc n) depth around levels best (marks_of f marks)
-      ∙ form_walked f n depth around levels (first_from best (all_deep around depth fs)) marks
-      ∙ joined (pushed n (capped depth) around levels) best (all_deep around depth fs) (deep around depth f) marks
+  pub forms_walked : (fs : Forms) (n depth : ℕ) (levels : List Level) (best : Option Place) (marks : List Mark) → walked (pushed (count fs + n) (capped depth) Other levels) best (all_marks fs marks) ≡ walked (pushed n (capped depth) Other levels) (first_from best (all_deep depth fs)) marks
+  forms_walked NoForms n depth levels best marks = ap (λ m. walked (pushed m (capped depth) Other levels) best marks) (zero-add n)
+  forms_walked (MoreForms f fs) n depth levels best marks =
+      ap (λ m. walked (pushed m (capped depth) Other levels) best (all_marks fs (marks_of f marks))) (count_moved (count fs) n)
+      ∙ forms_walked fs (suc n) depth levels best (marks_of f marks)
+      ∙ form_walked f n depth Other levels (first_from best (all_deep depth fs)) marks
+      ∙ joined (pushed n (capped depth) Other levels) best (all_deep depth fs) (deep Other depth f) marks

@@ -1,12 +1,13 @@
 -- How deep each form of a program is, which forms are too deep, and the first of these. The program is at depth 0 and its
--- declarations at 1. Local rows, expressions, patterns, types, predicates and initialisers are one level each.
+-- declarations at 1. Local rows, signatures of a class, equations of an instance, expressions, patterns, types, predicates
+-- and initialisers are one level each.
 use Rattle.std.specs.Prelude.{◌≡◌, ℕ, ◌+◌, ◌≤◌, ◌<◌, ◌⊎◌, Bool, true, false, nat_lt, if◌then◌else◌, List, [], ◌∷◌, ◌++◌, Option, Some, None}
 use Rattle.std.specs.List.{All, Contains}
 use Rattle.hb_base.specs.declared.place.Place.{Place}
 use Rattle.hb_tree.specs.declared.declaration.Program.{Program}
 use Rattle.hb_depth.specs.declared.shape.Around.{Around}
-use Rattle.hb_depth.specs.declared.shape.Around.TheVariants.{Other, Head, Right, Among}
-use Rattle.hb_depth.specs.Forms.{Form, Whole, Applied, Arrowed, Member, Members, Forms, NoForms, MoreForms, program_form}
+use Rattle.hb_depth.specs.declared.shape.Around.TheVariants.{Other, Head, Right}
+use Rattle.hb_depth.specs.Forms.{Form, Whole, Applied, Arrowed, Forms, NoForms, MoreForms, program_form}
 
 -- how many arguments an application has, and how many arrows to the right an arrow is made of; none for other forms
 
@@ -14,33 +15,21 @@ abbrev pub arguments : Form → ℕ
 arguments (Applied place f x) = arguments f + 1
 arguments (Whole k place parts) = 0
 arguments (Arrowed place a b) = 0
-arguments (Member place parts) = 0
-arguments (Members parts) = 0
 
 abbrev pub arrows : Form → ℕ
 arrows (Arrowed place a b) = arrows b + 1
 arrows (Whole k place parts) = 0
 arrows (Applied place f x) = 0
-arrows (Member place parts) = 0
-arrows (Members parts) = 0
 
 abbrev pub is_head : Around → Bool
 is_head Head = true
 is_head Other = false
 is_head Right = false
-is_head Among = false
 
 abbrev pub is_right : Around → Bool
 is_right Right = true
 is_right Other = false
 is_right Head = false
-is_right Among = false
-
-abbrev pub is_among : Around → Bool
-is_among Among = true
-is_among Other = false
-is_among Head = false
-is_among Right = false
 
 -- The depth of parts that are so many levels deeper than a form at this depth. A form that is joined with the one around it
 -- is no level: its parts are as deep as it would be.
@@ -56,19 +45,16 @@ itself false depth (Some place) = if nat_lt 200 depth then place ∷ [] else []
 
 -- The places of the forms that are too deep in a form at this depth: its own, and then those in its parts, the last part
 -- first. An application to k arguments, k arrows to the right and a run of k operators have parts k levels deeper: what is
--- applied in an application is joined with it if it is an application, and what is behind an arrow if it is an arrow. A
--- signature in a class and an equation in an instance are joined with that.
+-- applied in an application is joined with it if it is an application, and what is behind an arrow if it is an arrow.
 abbrev mutual
   pub deep : Around → ℕ → Form → List Place
-  deep around depth (Whole levels place parts) = itself false depth place ++ all_deep Other (depth + levels) parts
+  deep around depth (Whole levels place parts) = itself false depth place ++ all_deep (depth + levels) parts
   deep around depth (Applied place f x) = itself (is_head around) depth (Some place) ++ (deep Other (below (is_head around) depth (arguments f + 1)) x ++ deep Head (below (is_head around) depth (arguments f + 1)) f)
   deep around depth (Arrowed place a b) = itself (is_right around) depth (Some place) ++ (deep Right (below (is_right around) depth (arrows b + 1)) b ++ deep Other (below (is_right around) depth (arrows b + 1)) a)
-  deep around depth (Member place parts) = itself (is_among around) depth (Some place) ++ all_deep Other (below (is_among around) depth 1) parts
-  deep around depth (Members parts) = all_deep Among depth parts
 
-  pub all_deep : Around → ℕ → Forms → List Place
-  all_deep around depth NoForms = []
-  all_deep around depth (MoreForms f fs) = all_deep around depth fs ++ deep around depth f
+  pub all_deep : ℕ → Forms → List Place
+  all_deep depth NoForms = []
+  all_deep depth (MoreForms f fs) = all_deep depth fs ++ deep Other depth f
 
 -- the places of the forms of a program that are deeper than 200; the program itself is at depth 0
 abbrev pub too_deep : Program → List Place

@@ -36,10 +36,6 @@ mutual
     Applied : Place → Form → Form → Form
     -- the functions from the first form to the second
     Arrowed : Place → Form → Form → Form
-    -- a signature or a row of a definition: one level, and none in a class or an instance
-    Member : Place → Forms → Form
-    -- the signatures of a class, or the equations of an instance
-    Members : Forms → Form
 
   pub data Forms : Type 0 where
     NoForms : Forms
@@ -187,7 +183,7 @@ abbrev mutual
   -- each row with its patterns, its body and its local rows
   pub rows_forms : Place → Equations → Forms
   rows_forms place NoEquations = NoForms
-  rows_forms place (MoreEquations ps first e bs rows) = MoreForms (Member place (and (forms pat_form ps) (MoreForms (expr_form e) (binds_forms bs)))) (rows_forms place rows)
+  rows_forms place (MoreEquations ps first e bs rows) = MoreForms (plain place (and (forms pat_form ps) (MoreForms (expr_form e) (binds_forms bs)))) (rows_forms place rows)
 
 -- Declarations.
 
@@ -201,7 +197,7 @@ abbrev pub types_form : List TypeExpr → Form
 types_form all = hidden (forms type_form all)
 
 abbrev pub sig_form : Sig → Form
-sig_form s = Member s.place (three (names_form s.names) (context_form s.context) (type_form s.body))
+sig_form s = plain s.place (three (names_form s.names) (context_form s.context) (type_form s.body))
 
 -- the only row
 abbrev pub row_of : Forms → Form
@@ -232,12 +228,12 @@ struct_part_form (struct_part.Fields f) = hidden (one (fields_form f))
 abbrev pub depend_form : Depend → Form
 depend_form d = hidden (two (names_form d.from) (names_form d.to))
 
--- an initialiser; only a cell has a place of its own
+-- an initialiser
 abbrev mutual
   pub init_form : InitExpr → Form
-  init_form (Each name i) = Whole 1 None (two leaf (init_form i))
-  init_form (Fields fs) = Whole 1 None (field_inits_forms fs)
-  init_form (Cell first e) = plain first (one (expr_form e))
+  init_form (Each place name i) = plain place (two leaf (init_form i))
+  init_form (Fields place fs) = plain place (field_inits_forms fs)
+  init_form (Cell place e) = plain place (one (expr_form e))
 
   pub field_inits_forms : FieldInits → Forms
   field_inits_forms NoFieldInits = NoForms
@@ -257,8 +253,8 @@ decl_form (decl.Bitdata place name width cons) = plain place (three leaf leaf (h
 decl_form (decl.Struct place name bytes parts) = plain place (three leaf leaf (hidden (forms struct_part_form parts)))
 decl_form (decl.Area place name init a align) = plain place (four leaf (start_form init) (type_form a) leaf)
 decl_form (decl.Port place name dir a width k) = plain place (two leaf (type_form a))
-decl_form (decl.Class place ps name params ds sigs) = plain place (MoreForms (context_form ps) (four leaf (names_form params) (hidden (forms depend_form ds)) (Members (forms sig_form sigs))))
-decl_form (decl.Instance place name all ps rows) = plain place (four leaf (types_form all) (context_form ps) (Members (forms equation_form rows)))
+decl_form (decl.Class place ps name params ds sigs) = plain place (MoreForms (context_form ps) (four leaf (names_form params) (hidden (forms depend_form ds)) (hidden (forms sig_form sigs))))
+decl_form (decl.Instance place name all ps rows) = plain place (four leaf (types_form all) (context_form ps) (hidden (forms equation_form rows)))
 
 -- a program is one level, and has no place
 abbrev pub program_form : Program → Form

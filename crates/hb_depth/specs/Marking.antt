@@ -6,7 +6,7 @@ use Rattle.hb_depth.specs.declared.chain.Chain.{Chain}
 use Rattle.hb_depth.specs.declared.chain.Chain.TheVariants as chain
 use Rattle.hb_depth.specs.declared.mark.Mark.{Mark}
 use Rattle.hb_depth.specs.declared.shape.Kind.{Kind}
-use Rattle.hb_depth.specs.declared.shape.Kind.TheVariants.{Levels, Apply, Arrow, Member, Members}
+use Rattle.hb_depth.specs.declared.shape.Kind.TheVariants.{Levels, Apply, Arrow}
 use Rattle.hb_depth.specs.declared.shape.Shape.{Shape}
 
 -- a number of levels, or the greatest one that is told from others
@@ -42,15 +42,11 @@ abbrev pub levels_by : Kind → List Chain → ℕ
 levels_by (Levels n) chains = n
 levels_by Apply chains = applied chains
 levels_by Arrow chains = arrowed chains
-levels_by Member chains = 1
-levels_by Members chains = 0
 
 abbrev pub chains_by : Kind → ℕ → List Chain → List Chain
 chains_by (Levels n) parts chains = chain.Other ∷ dropped parts chains
 chains_by Apply parts chains = chain.Apply (applied chains) ∷ rest_of (rest_of chains)
 chains_by Arrow parts chains = chain.Arrow (arrowed chains) ∷ rest_of (rest_of chains)
-chains_by Member parts chains = chain.Other ∷ dropped parts chains
-chains_by Members parts chains = chain.Other ∷ dropped parts chains
 
 abbrev pub mark : Shape → ℕ → Mark
 mark shape levels = record { shape = shape; levels = levels }

@@ -10,7 +10,7 @@ use Rattle.hb_read_expressions.specs.declared.node.ExprNode.TheVariants as e
 use Rattle.hb_read_declarations.specs.declared.node.DeclNode.{DeclNode}
 use Rattle.hb_read_declarations.specs.declared.node.DeclNode.TheVariants as d
 use Rattle.hb_depth.specs.declared.shape.Kind.{Kind}
-use Rattle.hb_depth.specs.declared.shape.Kind.TheVariants.{Levels, Apply, Arrow, Member, Members}
+use Rattle.hb_depth.specs.declared.shape.Kind.TheVariants.{Levels, Apply, Arrow}
 use Rattle.hb_depth.specs.declared.shape.Shape.{Shape}
 
 abbrev pub shape : Kind → Option Place → ℕ → Shape
@@ -24,9 +24,6 @@ unplaced parts = shape (Levels 1) None parts
 
 abbrev pub hidden : ℕ → Shape
 hidden parts = shape (Levels 0) None parts
-
-abbrev pub members : ℕ → Shape
-members parts = shape Members None parts
 
 abbrev pub type_shape : TypeNode → Shape
 type_shape (t.Con place name) = plain place 0
@@ -81,7 +78,7 @@ expr_shape e.Alternative = hidden 2
 expr_shape e.TakeStmt = hidden 2
 expr_shape (e.LetStmt count) = hidden count
 expr_shape e.DoStmt = hidden 1
-expr_shape (e.Row name place pats first rows) = shape Member (Some place) (pats + 1 + rows)
+expr_shape (e.Row name place pats first rows) = plain place (pats + 1 + rows)
 
 abbrev pub decl_shape : DeclNode → Shape
 decl_shape (d.Type inner) = type_shape inner
@@ -91,10 +88,10 @@ decl_shape (d.Names count) = hidden count
 decl_shape (d.Types count) = hidden count
 decl_shape d.NoNumber = hidden 0
 decl_shape (d.Number k) = hidden 0
-decl_shape (d.Sig place) = shape Member (Some place) 3
-decl_shape (d.Sigs count) = members count
+decl_shape (d.Sig place) = plain place 3
+decl_shape (d.Sigs count) = hidden count
 decl_shape d.Equation = hidden 1
-decl_shape (d.Equations count) = members count
+decl_shape (d.Equations count) = hidden count
 decl_shape (d.Fixity place fix k) = plain place 1
 decl_shape d.DataCon = hidden 2
 decl_shape (d.DataCons count) = hidden count
@@ -108,9 +105,9 @@ decl_shape d.StructFields = hidden 1
 decl_shape (d.StructParts count) = hidden count
 decl_shape d.Depend = hidden 2
 decl_shape (d.Depends count) = hidden count
-decl_shape d.InitEach = unplaced 2
+decl_shape (d.InitEach place) = plain place 2
 decl_shape d.InitField = hidden 2
-decl_shape (d.InitFields count) = unplaced count
+decl_shape (d.InitFields place count) = plain place count
 decl_shape (d.InitCell place) = plain place 1
 decl_shape d.NoInit = hidden 0
 decl_shape d.Init = hidden 1

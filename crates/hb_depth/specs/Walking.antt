@@ -4,11 +4,11 @@ use Rattle.std.specs.Prelude.{ℕ, zero, suc, ◌+◌, ◌-◌, Bool, true, fals
 use Rattle.hb_base.specs.declared.place.Place.{Place}
 use Rattle.hb_depth.specs.declared.mark.Mark.{Mark}
 use Rattle.hb_depth.specs.declared.shape.Around.{Around}
-use Rattle.hb_depth.specs.declared.shape.Around.TheVariants.{Other, Head, Right, Among}
+use Rattle.hb_depth.specs.declared.shape.Around.TheVariants.{Other, Head, Right}
 use Rattle.hb_depth.specs.declared.shape.Kind.{Kind}
-use Rattle.hb_depth.specs.declared.shape.Kind.TheVariants.{Levels, Apply, Arrow, Member, Members}
+use Rattle.hb_depth.specs.declared.shape.Kind.TheVariants.{Levels, Apply, Arrow}
 use Rattle.hb_depth.specs.declared.walk.Level.{Level}
-use Rattle.hb_depth.specs.Depth.{is_head, is_right, is_among}
+use Rattle.hb_depth.specs.Depth.{is_head, is_right}
 use Rattle.hb_depth.specs.Marking.{capped}
 
 abbrev pub is_before : Place → Place → Bool
@@ -28,8 +28,6 @@ abbrev pub is_joined : Around → Kind → Bool
 is_joined around (Levels n) = false
 is_joined around Apply = is_head around
 is_joined around Arrow = is_right around
-is_joined around Member = is_among around
-is_joined around Members = false
 
 abbrev pub under : Bool → ℕ → ℕ → ℕ
 under true depth levels = depth
@@ -57,8 +55,6 @@ abbrev pub parts_pushed : Kind → ℕ → ℕ → List Level → List Level
 parts_pushed (Levels n) parts depth levels = pushed parts depth Other levels
 parts_pushed Apply parts depth levels = level 1 depth Other ∷ level 1 depth Head ∷ levels
 parts_pushed Arrow parts depth levels = level 1 depth Right ∷ level 1 depth Other ∷ levels
-parts_pushed Member parts depth levels = pushed parts depth Other levels
-parts_pushed Members parts depth levels = pushed parts depth Among levels
 
 abbrev pub levels_after : List Level → Mark → List Level
 levels_after [] m = []

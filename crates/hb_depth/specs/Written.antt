@@ -84,9 +84,9 @@ AreWrittenEquations (b ∷ bs) = IsWrittenEquation b × AreWrittenEquations bs
 
 abbrev mutual
   pub IsWrittenInit : InitExpr → Type 0
-  IsWrittenInit (Each name i) = IsWrittenInit i
-  IsWrittenInit (Fields fs) = AreWrittenInits fs
-  IsWrittenInit (Cell first e) = IsWritten e
+  IsWrittenInit (Each place name i) = IsWrittenInit i
+  IsWrittenInit (Fields place fs) = AreWrittenInits fs
+  IsWrittenInit (Cell place e) = IsWritten e
 
   pub AreWrittenInits : FieldInits → Type 0
   AreWrittenInits NoFieldInits = Unit {0}

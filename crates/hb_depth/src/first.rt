@@ -43,10 +43,10 @@ fn walk_back(alloc: Global, mut marks: Stack<Mark>) -> Result<Option<Place>, Mem
 
 /// Answers the place of the first form in the text that is nested deeper than 200 levels, if there is one, where the nodes
 /// are those of a program as it is written. The program is at depth 0, a declaration at 1, and each local row, expression,
-/// pattern, type, predicate and initialiser is one level more than the form around it. The operands and operators of a run of
-/// `k` operators, the function and the arguments of an application to `k` arguments, and the parts of `k` arrows are `k`
-/// levels deeper. A signature in a class and an equation in an instance are no level. What it answers for other nodes is not
-/// told. It takes memory in proportion to the nodes.
+/// pattern, type, predicate and initialiser is one level more than the form around it, and so is each signature of a class
+/// and each equation of an instance. The operands and operators of a run of `k` operators, the function and the arguments of
+/// an application to `k` arguments, and the parts of `k` arrows are `k` levels deeper. What it answers for other nodes is
+/// not told. It takes memory in proportion to the nodes.
 pub fn first_too_deep(alloc: Global, nodes: &[DeclNode]) -> Result<Option<Place>, Memory>
     ensures found { (p : Program) → IsWrittenProgram p → nodes.now ≡ program_nodes p → IfOk result (λ answer. IsFirst answer (too_deep p)) }
 {

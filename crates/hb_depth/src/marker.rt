@@ -46,14 +46,6 @@ impl Marker {
                 let levels = self.drop_arrow();
                 self.put(Chain::Arrow(levels), Mark { shape, levels })
             }
-            Kind::Member => {
-                self.drop_parts(shape.parts);
-                self.put(Chain::Other, Mark { shape, levels: 1 })
-            }
-            Kind::Members => {
-                self.drop_parts(shape.parts);
-                self.put(Chain::Other, Mark { shape, levels: 0 })
-            }
         }
     }
 

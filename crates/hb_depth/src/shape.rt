@@ -9,10 +9,6 @@ pub enum Kind {
     Apply,
     /// The functions from the first part to the second.
     Arrow,
-    /// A signature or a row of a definition: one level, and none in a class or an instance.
-    Member,
-    /// The signatures of a class, or the equations of an instance: no level.
-    Members,
 }
 
 /// What a form that stands in another is to the form around it.
@@ -24,8 +20,6 @@ pub enum Around {
     Head,
     /// What is behind an arrow.
     Right,
-    /// One of the signatures of a class, or of the equations of an instance.
-    Among,
 }
 
 /// A node, as its depth is found. `parts` counts the forms that stand before it and belong to it: at most one more than a

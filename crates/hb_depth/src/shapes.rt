@@ -1,6 +1,6 @@
 ghost use Rattle.std.specs.Prelude.{◌≡◌};
 ghost use Rattle.hb_depth.specs.Shapes.{decl_shape, expr_shape, pat_shape, shape, type_shape};
-ghost use Rattle.hb_depth.specs.declared.shape.Kind.TheVariants.{Levels, Members as Group};
+ghost use Rattle.hb_depth.specs.declared.shape.Kind.TheVariants.{Levels};
 ghost use Rattle.std.specs.Prelude.{Some, None};
 
 use crate::shape::{Kind, Shape};
@@ -50,17 +50,6 @@ fn placed(kind: Kind, place: Place, parts: u128) -> Shape
     Shape {
         kind,
         place: Some(place),
-        parts,
-    }
-}
-
-/// Forms of a class or of an instance.
-fn members(parts: u128) -> Shape
-    ensures { result ≡ shape Group None parts }
-{
-    Shape {
-        kind: Kind::Members,
-        place: None,
         parts,
     }
 }
@@ -139,7 +128,7 @@ pub fn of_expr(node: ExprNode) -> Shape
         ExprNode::LetStmt(count) => hidden(count as u128),
         ExprNode::DoStmt => hidden(1),
         ExprNode::Row(_name, place, pats, _first, rows) => {
-            placed(Kind::Member, place, pats as u128 + 1 + rows as u128)
+            plain(place, pats as u128 + 1 + rows as u128)
         }
     }
 }
@@ -156,10 +145,10 @@ pub fn of_decl(node: DeclNode) -> Shape
         DeclNode::Types(count) => hidden(count as u128),
         DeclNode::NoNumber => hidden(0),
         DeclNode::Number(_value) => hidden(0),
-        DeclNode::Sig(place) => placed(Kind::Member, place, 3),
-        DeclNode::Sigs(count) => members(count as u128),
+        DeclNode::Sig(place) => plain(place, 3),
+        DeclNode::Sigs(count) => hidden(count as u128),
         DeclNode::Equation => hidden(1),
-        DeclNode::Equations(count) => members(count as u128),
+        DeclNode::Equations(count) => hidden(count as u128),
         DeclNode::Fixity(place, _fix, _level) => plain(place, 1),
         DeclNode::DataCon => hidden(2),
         DeclNode::DataCons(count) => hidden(count as u128),
@@ -173,9 +162,9 @@ pub fn of_decl(node: DeclNode) -> Shape
         DeclNode::StructParts(count) => hidden(count as u128),
         DeclNode::Depend => hidden(2),
         DeclNode::Depends(count) => hidden(count as u128),
-        DeclNode::InitEach => unplaced(2),
+        DeclNode::InitEach(place) => plain(place, 2),
         DeclNode::InitField => hidden(2),
-        DeclNode::InitFields(count) => unplaced(count as u128),
+        DeclNode::InitFields(place, count) => plain(place, count as u128),
         DeclNode::InitCell(place) => plain(place, 1),
         DeclNode::NoInit => hidden(0),
         DeclNode::Init => hidden(1),

@@ -153,24 +153,55 @@ fn patterns(alloc: Global, count: u32) -> Result<Vec<DeclNode>, Fail> {
     Ok(nodes)
 }
 
-/// An area whose initialiser is this many `each` in one another, without the cell. The cell is on line 2, its expression on
-/// line 3.
-fn initialisers(alloc: Global, count: u32) -> Result<Vec<DeclNode>, Fail> {
-    let mut nodes = Vec::new(alloc);
-    nodes.push(DeclNode::Name(at(1, 1), NAME))?;
-    for _ in 0..count {
-        nodes.push(DeclNode::Name(at(1, 9), NAME))?;
-    }
-    put_var(&mut nodes, at(3, 1))?;
-    nodes.push(DeclNode::InitCell(at(2, 1)))?;
-    for _ in 0..count {
-        nodes.push(DeclNode::InitEach)?;
-    }
+/// The end of an initialiser, of an area of a type on line 4, and of the program.
+fn end_area(nodes: &mut Vec<DeclNode>) -> Result<(), Fail> {
     nodes.push(DeclNode::Init)?;
-    put_con(&mut nodes, at(4, 1))?;
+    put_con(nodes, at(4, 1))?;
     nodes.push(DeclNode::NoNumber)?;
     nodes.push(DeclNode::Area(at(1, 1)))?;
     nodes.push(DeclNode::Program(1))?;
+    Ok(())
+}
+
+/// The column behind this many parts of one width, the first of which stands in this column.
+fn column(first: u32, width: u32, parts: u32) -> u32 {
+    first.saturating_add(width.saturating_mul(parts))
+}
+
+/// `area r <- `, and this many times `each i -> ` before the cell and its expression, which stand at these places.
+fn eaches(alloc: Global, count: u32, cell: Place, value: Place) -> Result<Vec<DeclNode>, Fail> {
+    let mut nodes = Vec::new(alloc);
+    nodes.push(DeclNode::Name(at(1, 6), NAME))?;
+    for before in 0..count {
+        nodes.push(DeclNode::Name(at(1, column(16, 10, before)), NAME))?;
+    }
+    put_var(&mut nodes, value)?;
+    nodes.push(DeclNode::InitCell(cell))?;
+    for behind in 0..count {
+        nodes.push(DeclNode::InitEach(at(1, column(1, 10, count.saturating_sub(behind)))))?;
+    }
+    end_area(&mut nodes)?;
+    Ok(nodes)
+}
+
+/// `area r <- `, and this many times `fields [a <- ` before a cell on line 2, whose expression is on line 3.
+fn fields(alloc: Global, count: u32) -> Result<Vec<DeclNode>, Fail> {
+    let mut nodes = Vec::new(alloc);
+    nodes.push(DeclNode::Name(at(1, 6), NAME))?;
+    for before in 0..count {
+        nodes.push(DeclNode::Name(at(1, column(19, 13, before)), NAME))?;
+    }
+    put_var(&mut nodes, at(3, 1))?;
+    nodes.push(DeclNode::InitCell(at(2, 1)))?;
+    for behind in 0..count {
+        nodes.push(DeclNode::InitField)?;
+        let word = at(
+            1,
+            column(11, 13, count.saturating_sub(behind).saturating_sub(1)),
+        );
+        nodes.push(DeclNode::InitFields(word, 1))?;
+    }
+    end_area(&mut nodes)?;
     Ok(nodes)
 }
 
@@ -236,10 +267,38 @@ fn a_pattern_is_at_most_200_deep(rt: HostRuntime) -> Result<(), Fail> {
 #[test]
 fn a_cell_and_its_expression_are_at_most_200_deep(rt: HostRuntime) -> Result<(), Fail> {
     let alloc = rt.alloc();
-    assert!(rt; is_answer(alloc, initialisers(alloc, 196)?, None)?);
-    assert!(rt; is_answer(alloc, initialisers(alloc, 197)?, None)?);
-    assert!(rt; is_answer(alloc, initialisers(alloc, 198)?, Some(at(3, 1)))?);
-    assert!(rt; is_answer(alloc, initialisers(alloc, 199)?, Some(at(2, 1)))?);
+    let (cell, value) = (at(2, 1), at(3, 1));
+    assert!(rt; is_answer(alloc, eaches(alloc, 196, cell, value)?, None)?);
+    assert!(rt; is_answer(alloc, eaches(alloc, 197, cell, value)?, None)?);
+    assert!(rt; is_answer(alloc, eaches(alloc, 198, cell, value)?, Some(value))?);
+    assert!(rt; is_answer(alloc, eaches(alloc, 199, cell, value)?, Some(cell))?);
+    Ok(())
+}
+
+#[test]
+fn an_each_is_at_most_200_deep_and_stands_at_its_word(rt: HostRuntime) -> Result<(), Fail> {
+    let alloc = rt.alloc();
+    for (count, found) in [
+        (198, 1991),
+        (199, 2001),
+        (200, 2001),
+        (201, 2001),
+        (300, 2001),
+    ] {
+        let x = at(1, column(11, 10, count));
+        assert!(rt; is_answer(alloc, eaches(alloc, count, x, x)?, Some(at(1, found)))?);
+    }
+    Ok(())
+}
+
+#[test]
+fn fields_are_at_most_200_deep_and_stand_at_their_word(rt: HostRuntime) -> Result<(), Fail> {
+    let alloc = rt.alloc();
+    assert!(rt; is_answer(alloc, fields(alloc, 197)?, None)?);
+    assert!(rt; is_answer(alloc, fields(alloc, 198)?, Some(at(3, 1)))?);
+    assert!(rt; is_answer(alloc, fields(alloc, 199)?, Some(at(2, 1)))?);
+    assert!(rt; is_answer(alloc, fields(alloc, 200)?, Some(at(1, 2598)))?);
+    assert!(rt; is_answer(alloc, fields(alloc, 201)?, Some(at(1, 2598)))?);
     Ok(())
 }
 
@@ -325,14 +384,14 @@ fn local(alloc: Global, count: u32) -> Result<Vec<DeclNode>, Fail> {
 }
 
 #[test]
-fn an_equation_of_an_instance_and_a_signature_of_a_class_are_no_level(
+fn an_equation_of_an_instance_and_a_signature_of_a_class_are_levels(
     rt: HostRuntime,
 ) -> Result<(), Fail> {
     let alloc = rt.alloc();
-    assert!(rt; is_answer(alloc, instance(alloc, 198)?, None)?);
-    assert!(rt; is_answer(alloc, instance(alloc, 199)?, Some(at(2, 1)))?);
-    assert!(rt; is_answer(alloc, class(alloc, 198)?, None)?);
-    assert!(rt; is_answer(alloc, class(alloc, 199)?, Some(at(2, 1)))?);
+    assert!(rt; is_answer(alloc, instance(alloc, 197)?, None)?);
+    assert!(rt; is_answer(alloc, instance(alloc, 198)?, Some(at(2, 1)))?);
+    assert!(rt; is_answer(alloc, class(alloc, 197)?, None)?);
+    assert!(rt; is_answer(alloc, class(alloc, 198)?, Some(at(2, 1)))?);
     Ok(())
 }
 

@@ -54,8 +54,6 @@ fn is_joined(around: Around, kind: Kind) -> bool
         Kind::Levels(_levels) => false,
         Kind::Apply => around == Around::Head,
         Kind::Arrow => around == Around::Right,
-        Kind::Member => around == Around::Among,
-        Kind::Members => false,
     }
 }
 
@@ -142,8 +140,6 @@ impl Walk {
             Kind::Levels(_levels) => self.push(shape.parts, depth, Around::Other),
             Kind::Apply => self.push_two(depth, Around::Head, Around::Other),
             Kind::Arrow => self.push_two(depth, Around::Other, Around::Right),
-            Kind::Member => self.push(shape.parts, depth, Around::Other),
-            Kind::Members => self.push(shape.parts, depth, Around::Among),
         }
     }
 

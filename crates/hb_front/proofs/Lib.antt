@@ -1,2 +1,4 @@
 mod FaultLaws
-mod OnceLaws
+pub mod OnceLaws
+pub mod AloneLaws
+mod RefusalLaws

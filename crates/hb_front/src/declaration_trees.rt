@@ -10,6 +10,7 @@ use std::test::Fail;
 
 impl Printer {
     fn init(&mut self, init: &InitExpr) -> Result<(), Fail> {
+        self.at(init.place, "|")?;
         match &init.kind {
             InitKind::Each(name, part) => {
                 self.put("(each ")?;
@@ -29,10 +30,7 @@ impl Printer {
                 }
                 self.put(")")
             }
-            InitKind::Cell(first, e) => {
-                self.at(*first, "|")?;
-                self.expr(e)
-            }
+            InitKind::Cell(e) => self.expr(e),
         }
     }
 

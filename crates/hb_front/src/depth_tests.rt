@@ -291,19 +291,44 @@ fn initialisers(rt: HostRuntime) -> Result<(), Fail> {
 }
 
 #[test]
-fn methods_and_constructors_are_no_level(rt: HostRuntime) -> Result<(), Fail> {
+fn an_each_that_is_too_deep_stands_at_its_word(rt: HostRuntime) -> Result<(), Fail> {
+    let alloc = rt.alloc();
+    let mut wrong: u32 = 0;
+    for (count, wanted) in [
+        (198, "E29 1:1991 depth"),
+        (199, "E29 1:2001 depth"),
+        (200, "E29 1:2001 depth"),
+        (201, "E29 1:2001 depth"),
+        (300, "E29 1:2001 depth"),
+    ] {
+        let source = repeated(
+            alloc,
+            count,
+            ["area r <- ", "x", " :: T"],
+            ["each i -> ", ""],
+        )?;
+        if outcome(alloc, source.as_str())?.as_bytes() != wanted.as_bytes() {
+            wrong = wrong.saturating_add(1);
+        }
+    }
+    assert_eq!(rt; wrong, 0);
+    Ok(())
+}
+
+#[test]
+fn methods_are_levels_and_constructors_are_none(rt: HostRuntime) -> Result<(), Fail> {
     let nests = [
         Nest {
-            count: 198,
+            count: 197,
             texts: ["class C a where { f :: a", "", " }"],
             parts: [" -> a", ""],
             refusals: ["E29 1:24 depth", "E29 1:24 depth"],
         },
         Nest {
-            count: 198,
+            count: 197,
             texts: ["instance C a where { f = ", "y", " }"],
             parts: ["\\a -> ", ""],
-            refusals: ["E29 1:1215 depth", "E29 1:1215 depth"],
+            refusals: ["E29 1:1209 depth", "E29 1:1209 depth"],
         },
         Nest {
             count: 198,

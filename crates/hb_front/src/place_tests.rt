@@ -129,7 +129,7 @@ fn declarations_stand_at_their_words(rt: HostRuntime) -> Result<(), Fail> {
         ),
         (
             "area r <- each i -> fields [a <- (b)] :: T",
-            "1:(area 6:r <- (each 16:i (fields (29:a 34|35:b))) 42:T)",
+            "1:(area 6:r <- 11|(each 16:i 21|(fields (29:a 34|35:b))) 42:T)",
         ),
         ("port p :: In (T) at X00", "1:(port 6:p In 15:T 8'0)"),
         (

@@ -102,3 +102,22 @@ fn a_mebibyte_of_choices_is_refused(rt: HostRuntime) -> Result<(), Fail> {
     );
     Ok(())
 }
+
+#[test]
+fn a_second_source_is_read_over_the_table_of_the_first(rt: HostRuntime) -> Result<(), Fail> {
+    let alloc = rt.alloc();
+    let mut names = Names::new(alloc)?;
+    if names.count() >= 0x7000_0000 {
+        return Err(Fail::from("too much"));
+    }
+    let first = read_program(alloc, b"f = g", &mut names);
+    assert!(rt; first.is_ok());
+    assert_eq!(rt; names.count(), 73);
+    let second = read_program(alloc, b"g = h x )", &mut names);
+    assert!(rt; second.is_err());
+    assert_eq!(rt; names.count(), 75);
+    let third = read_program(alloc, b"h = f x", &mut names);
+    assert!(rt; third.is_ok());
+    assert_eq!(rt; names.count(), 75);
+    Ok(())
+}

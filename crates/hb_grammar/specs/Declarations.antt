@@ -1,5 +1,5 @@
 -- Declarations, and a whole program.
-use Rattle.std.specs.Prelude.{◌≡◌, ℕ, ◌≤◌, List, [], ◌∷◌, Option, Some, None}
+use Rattle.std.specs.Prelude.{ℕ, ◌≤◌, List, [], ◌∷◌, Option, Some, None}
 use Rattle.hb_base.specs.declared.name.Name.{Name}
 use Rattle.hb_base.specs.declared.place.Place.{Place}
 use Rattle.hb_base.specs.declared.port.Dir.{Dir}
@@ -26,10 +26,10 @@ use Rattle.hb_tree.specs.declared.declaration.Decl.TheVariants as decl
 use Rattle.hb_tree.specs.declared.declaration.Program.{Program}
 use Rattle.hb_tree.specs.declared.statement.Bind.{Bind}
 use Rattle.hb_tree.specs.Types.{TypeExpr}
-use Rattle.hb_tree.specs.Expressions.{Expr, Binds, Equations, Equation}
+use Rattle.hb_tree.specs.Expressions.{Expr, Equation}
 use Rattle.hb_tree.specs.ExpressionViews.{equations, binds}
 use Rattle.hb_tree.specs.Initials.{InitExpr, Each, Fields, Cell, FieldInits, NoFieldInits, MoreFieldInits}
-use Rattle.hb_grammar.specs.Tokens.{IsVar, IsCon, IsOp, IsWord, IsNumber, IsBits, IsEnd, IsOpen, IsClose, IsComma, IsSemicolon, IsOpenSquare, IsCloseSquare, IsOpenBrace, IsCloseBrace, first_place}
+use Rattle.hb_grammar.specs.Tokens.{IsVar, IsCon, IsOp, IsWord, IsNumber, IsBits, IsEnd, IsComma, IsSemicolon, IsOpenSquare, IsCloseSquare, IsOpenBrace, IsCloseBrace, first_place}
 use Rattle.hb_grammar.specs.Types.{ReadsType, ReadsAtype, ReadsAtypes, ReadsPreds, ReadsContext, name_at}
 use Rattle.hb_grammar.specs.Expressions.{ReadsName, ReadsInfix, ReadsExpr, ReadsBinds, ReadsEquation}
 
@@ -135,8 +135,8 @@ pub data ReadsStructParts : List Token → List StructPart → List Token → Ty
 mutual
   -- init = "each" varid "->" init | "fields" "[" sep(varid "<-" init, "|") "]" | expr
   pub data ReadsInit : List Token → InitExpr → List Token → Type 0 where
-    each : {t s r : Token} {ts us : List Token} {name : Name} {i : InitExpr} → IsWord word.Each t → IsVar name s → IsWord word.RightArrow r → ReadsInit ts i us → ReadsInit (t ∷ s ∷ r ∷ ts) (Each (name_at s name) i) us
-    by_fields : {t s r : Token} {ts us : List Token} {fs : FieldInits} → IsWord word.Fields t → IsOpenSquare s → ReadsFieldInits ts fs (r ∷ us) → IsCloseSquare r → ReadsInit (t ∷ s ∷ ts) (Fields fs) us
+    each : {t s r : Token} {ts us : List Token} {name : Name} {i : InitExpr} → IsWord word.Each t → IsVar name s → IsWord word.RightArrow r → ReadsInit ts i us → ReadsInit (t ∷ s ∷ r ∷ ts) (Each t.place (name_at s name) i) us
+    by_fields : {t s r : Token} {ts us : List Token} {fs : FieldInits} → IsWord word.Fields t → IsOpenSquare s → ReadsFieldInits ts fs (r ∷ us) → IsCloseSquare r → ReadsInit (t ∷ s ∷ ts) (Fields t.place fs) us
     cell : {ts us : List Token} {e : Expr} → ReadsExpr ts e us → ReadsInit ts (Cell (first_place ts) e) us
 
   -- sep(varid "<-" init, "|")

@@ -1,5 +1,5 @@
 -- A reader takes tokens one at a time. At each moment it may be that the tokens taken are a whole thing of its kind.
-use Rattle.std.specs.Prelude.{◌≡◌, ℕ, List, [], ◌∷◌, ◌++◌, Option, Some, None, ◌↔◌}
+use Rattle.std.specs.Prelude.{◌≡◌, List, [], ◌∷◌, Option, Some}
 use Rattle.hb_tokens.specs.declared.token.Token.{Token}
 
 -- the state at the start, the state after a token that can stand there, and what was read where it is whole

@@ -1,6 +1,6 @@
 -- Types and contexts. `ReadsType ts a us` says that the tokens ts begin with the type a, and us are left; the other
 -- families say so of what their names tell. A type stands at its first token, and one in brackets at what is inside.
-use Rattle.std.specs.Prelude.{◌≡◌, ℕ, List, [], ◌∷◌}
+use Rattle.std.specs.Prelude.{ℕ, List, [], ◌∷◌}
 use Rattle.hb_base.specs.declared.name.Name.{Name}
 use Rattle.hb_base.specs.declared.place.Place.{Place}
 use Rattle.hb_base.specs.Fixed.{plus, times, power, at_most}

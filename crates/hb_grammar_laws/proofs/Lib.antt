@@ -3,3 +3,7 @@ pub mod TypesStretch
 pub mod PatternsStretch
 pub mod ExpressionsStretch
 pub mod DeclarationsStretch
+pub mod TypesFew
+pub mod PatternsFew
+pub mod ExpressionsFew
+pub mod DeclarationsFew

@@ -52,7 +52,7 @@ pub fn text_end(bytes: &[u8]) -> Place
 
 /// The tokens that the bytes of a source spell. Their names are taken into the table in the order in which they first
 /// occur. A byte that no source has is E01, with the byte as its detail; what is no token is E02. The table keeps its
-/// old names in their places, whatever the answer.
+/// old names in their places, whatever the answer, and gets at most one name for each byte.
 pub fn lex(alloc: Global, bytes: &[u8], names: &mut Names) -> Result<Tokens, Fault>
     requires few { length bytes.now ≤ 1048576 }
     requires names { length names.old < 2 ^ 31 }
@@ -70,6 +70,7 @@ pub fn lex(alloc: Global, bytes: &[u8], names: &mut Names) -> Result<Tokens, Fau
     // The table has the names of the tokens beside its old ones, in the order of their first occurrence.
     ensures names { OnOk result ((ls : List Lexeme) → Spells bytes.now ls → names.new ≡ with_texts names.old (texts_of ls)) }
     ensures kept { Extends names.old names.new }
+    ensures grows { length names.new ≤ length names.old + length bytes.now }
 
     // A refusal is that of the first rule that the bytes break.
     ensures faults { IfErr result (IfRefused (FirstFault bytes.now)) }

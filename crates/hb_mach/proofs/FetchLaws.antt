@@ -4,8 +4,8 @@ use Rattle.std.proofs.lemmas.Bool.{le-leb, lt-leb}
 use Rattle.std.proofs.lemmas.Option.{slice_get-map}
 use Rattle.hb_asm.specs.declared.instr.Instr.{Instr}
 use Rattle.hb_asm.specs.Coding.{decode_of}
-use Rattle.hb_mach.specs.State.{State, code_base}
-use Rattle.hb_mach.specs.Table.{instruction_at_pc}
+use Rattle.hb_isa.specs.State.{State, code_base}
+use Rattle.hb_isa.specs.Table.{instruction_at_pc}
 
 pub fetch-below : (s : State) → s.pc < code_base → instruction_at_pc s ≡ None
 fetch-below s h = let low : nat_le code_base s.pc ≡ false = lt-leb _ _ h in rw low refl

@@ -1,9 +1,7 @@
 pub mod FetchLaws
 pub mod KeepsLaws
 pub mod LittleLaws
-pub mod MemoryLaws
 pub mod PortLaws
 pub mod RunLaws
-pub mod TurnLaws
 pub mod RunningLaws
 pub mod WaitingLaws

@@ -1,7 +1,7 @@
 -- Numbers of two and four bytes from those of one and two.
 use Rattle.std.proofs.Common.{◌≡◌, ℕ, ◌+◌, ◌*◌, ◌/◌, List, refl, arith}
 use Rattle.std.proofs.Math.Nat.{div-div-eq-div-mul}
-use Rattle.hb_mach.specs.Memory.{number_at, put_number}
+use Rattle.hb_isa.specs.Memory.{number_at, put_number}
 
 pub number_at_2 : (bytes : List ℕ) (place : ℕ) → number_at bytes place 2 ≡ number_at bytes place 1 + 256 * number_at bytes (place + 1) 1
 unfolding number_at

@@ -1,7 +1,6 @@
 -- That port events are at a port of their kind, with a value of its width.
-use Rattle.std.proofs.Common.{◌⊎◌, inl, inr, ◌≡◌, ℕ, ◌*◌, ◌^◌, ◌<◌, Bool, true, false, ◌==◌, if◌then◌else◌, List, [], ◌∷◌, length, slice_get, Option, Some, None, IsSomeAnd, position, get_or, arith}
-use Rattle.std.proofs.lemmas.Bool.{cases_Bool, eqb-true, and_parts}
-use Rattle.std.proofs.lemmas.List.Elements.{All-head, All-tail, All-cons}
+use Rattle.std.proofs.Common.{◌≡◌, ℕ, ◌*◌, ◌^◌, ◌<◌, Bool, ◌==◌, List, [], length, slice_get, Some, position, get_or, arith}
+use Rattle.std.proofs.lemmas.Bool.{eqb-true, and_parts}
 use Rattle.std.proofs.lemmas.List.Quantifiers.{position-Some}
 use Rattle.std.proofs.lemmas.Option.{slice_get-get_or}
 use Rattle.hb_asm.specs.declared.instr.StoreOp.{StoreOp}
@@ -11,48 +10,15 @@ use Rattle.hb_base.specs.declared.port.Port.{Port}
 use Rattle.hb_base.specs.declared.script.ScriptLine.{ScriptLine}
 use Rattle.hb_script.specs.Lines.{IsEvent}
 use Rattle.hb_asm.specs.Arithmetic.{store_size, low_part}
-use Rattle.hb_base.specs.Inputs.{IsInput, AreInputs, first_value, without_first}
-use Rattle.hb_mach.specs.Table.{is_out, is_met_at, is_written_at}
+use Rattle.hb_base.specs.Inputs.{AreInputs, first_value}
+use Rattle.hb_isa.specs.Table.{is_out, is_met_at, is_written_at}
+use Rattle.hb_isa.proofs.InputLaws.{first_value-fits}
 
--- ---- lines
-
-event-input : (ports : List Port) (line : ScriptLine) → IsInput ports line → IsEvent ports line.port line.value
-event-input ports line input = at (slice_get ports line.port) input
-  where
-    at : (o : Option Port) → IsSomeAnd o (λ port. (port.dir ≡ In) × (line.value < 2 ^ (8 * port.width))) → IsSomeAnd o (λ port. line.value < 2 ^ (8 * port.width))
-    at None h = h
-    at (Some port) h = h.1
-
-some_number : (a b : ℕ) → Some a ≡ Some b → a ≡ b
-some_number a b e = cc
-
-no_number : (a : ℕ) → None ≡ Some a → ⊥
-no_number a e = cc
+pub use Rattle.hb_isa.proofs.InputLaws.{AreInputs-without_first}
 
 -- the line that a port takes first is an input of that port
 pub first_value-event : (ports : List Port) (lines : List ScriptLine) (port value : ℕ) → AreInputs ports lines → first_value port lines ≡ Some value → IsEvent ports port value
-first_value-event ports [] port value inputs e = absurd (no_number value e)
-first_value-event ports (line ∷ lines) port value inputs whole =
-    by_port (λ e. first_value-event ports lines port value (All-tail (IsInput ports) line lines inputs) e) (cases_Bool (line.port == port)) whole
-  where
-    by_port : (first_value port lines ≡ Some value → IsEvent ports port value) → ((line.port == port) ≡ true) ⊎ ((line.port == port) ≡ false)
-        → (if line.port == port then Some line.value else first_value port lines) ≡ Some value → IsEvent ports port value
-    by_port later (inl met) e =
-        let same : line.value ≡ value = some_number _ _ (rw met at e) in
-        let is_port : line.port ≡ port = eqb-true line.port port met in
-        let found : IsEvent ports line.port line.value = event-input ports line (All-head (IsInput ports) line lines inputs) in
-        rw (← same, ← is_port) found
-    by_port later (inr other) e = later (rw other at e)
-
-pub AreInputs-without_first : (ports : List Port) (lines : List ScriptLine) (port : ℕ) → AreInputs ports lines → AreInputs ports (without_first port lines)
-AreInputs-without_first ports [] port inputs = inputs
-AreInputs-without_first ports (line ∷ lines) port inputs =
-    let others = All-tail (IsInput ports) line lines inputs in
-    either (line.port == port) (AreInputs-without_first ports lines port others)
-  where
-    either : (b : Bool) → AreInputs ports (without_first port lines) → AreInputs ports (if b then lines else line ∷ without_first port lines)
-    either true later = All-tail (IsInput ports) line lines inputs
-    either false later = All-cons (IsInput ports) line (without_first port lines) (All-head (IsInput ports) line lines inputs) later
+first_value-event ports lines port value inputs first = first_value-fits ports lines port value inputs first
 
 -- ---- stores
 

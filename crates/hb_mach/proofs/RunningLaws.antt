@@ -16,11 +16,12 @@ use Rattle.hb_script.specs.Lines.{line_of, lines_of}
 use Rattle.hb_mach.specs.Run.{events, stop_of, mach, shown, steps_done}
 use Rattle.hb_mach.specs.Running.{lines_shown, Ran, RanToLimit, RanToFault}
 use Rattle.hb_mach.specs.Soundness.{IsOwnEnd}
-use Rattle.hb_mach.specs.State.{State, start}
-use Rattle.hb_mach.specs.Table.{table, running}
+use Rattle.hb_isa.specs.State.{State}
+use Rattle.hb_mach.specs.State.{start}
+use Rattle.hb_isa.specs.Table.{table, running}
 use Rattle.hb_mach.specs.Turns.{TurnGoes, TurnEnds, TurnFails}
-use Rattle.hb_mach.proofs.KeepsLaws.{keeps, ports-after}
-use Rattle.hb_mach.proofs.RunLaws.{Turn, Quiet, Reads, Writes, Stops, Over, turns, after-suc, answers-suc, events-append}
+use Rattle.hb_isa.proofs.KeepsLaws.{keeps, ports-after}
+use Rattle.hb_isa.proofs.RunLaws.{Turn, Quiet, Reads, Writes, Stops, Over, turns, after-suc, answers-suc, events-append}
 
 -- ---- the lines of steps
 

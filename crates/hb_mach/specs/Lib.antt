@@ -1,4 +1,3 @@
-pub mod Memory
 pub mod Run
 pub mod Running
 pub mod Soundness

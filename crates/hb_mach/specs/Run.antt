@@ -1,35 +1,15 @@
--- What a run of the machine shows: the port events of so many steps, and the end, or none while the run is going.
-use Rattle.std.specs.Prelude.{ℕ, Bool, true, false, List, filter, Option, Some, None}
+-- What a run of an image shows.
+use Rattle.std.specs.Prelude.{ℕ, List}
 use Rattle.hb_base.specs.declared.script.ScriptLine.{ScriptLine}
 use Rattle.hb_base.specs.declared.step.Step.{Step}
-use Rattle.hb_base.specs.declared.step.Step.TheVariants.{Going, Read, Wrote, Ended}
 use Rattle.hb_base.specs.declared.step.Stop.{Stop}
-use Rattle.hb_base.specs.declared.step.Stop.TheVariants.{Steps}
 use Rattle.hb_image.specs.declared.image.Image.{Image}
 use Rattle.hb_runs.specs.Outcome.{Outcome}
-use Rattle.hb_runs.specs.Stepping.{after, answers}
-use Rattle.hb_runs.specs.System.{Turn, Quiet, Event, End}
-use Rattle.hb_mach.specs.State.{State, start}
-use Rattle.hb_mach.specs.Table.{table}
-
-abbrev pub is_event : Step → Bool
-is_event Going = false
-is_event (Read port value) = true
-is_event (Wrote port value) = true
-is_event (Ended stop) = false
-
--- the reads and writes of ports among the answers of steps
-abbrev pub events : List Step → List Step
-events steps = filter is_event steps
-
--- how a run is said to have ended, where the steps allowed are done
-abbrev pub stop_of : Option Stop → Stop
-stop_of None = Steps
-stop_of (Some stop) = stop
-
--- what the first steps from a state show
-unfoldable pub shown : State → ℕ → Outcome Step Stop
-shown s steps = record { trace = events (answers table steps s); end = (after table steps s).ended }
+use Rattle.hb_runs.specs.Stepping.{after}
+use Rattle.hb_isa.specs.Table.{table}
+use Rattle.hb_mach.specs.State.{start}
+pub use Rattle.hb_isa.specs.Run.{events, stop_of}
+unfoldable pub use Rattle.hb_isa.specs.Run.{shown}
 
 -- what the first steps of a run show
 unfoldable pub mach : Image → List ScriptLine → ℕ → Outcome Step Stop
@@ -38,13 +18,3 @@ mach image lines steps = shown (start image lines) steps
 -- the number of steps done by then
 unfoldable pub steps_done : Image → List ScriptLine → ℕ → ℕ
 steps_done image lines steps = (after table steps (start image lines)).done
-
--- a step as the turn of a system: it goes on in silence, or with an event, or the run ends. No step lacks a rule
-unfoldable pub turn_of : State × Step → Turn State Step Stop
-turn_of (s, Going) = Quiet s
-turn_of (s, Read port value) = Event (Read port value) s
-turn_of (s, Wrote port value) = Event (Wrote port value) s
-turn_of (s, Ended stop) = End stop
-
-unfoldable pub turn : State → Turn State Step Stop
-turn s = turn_of (table s)

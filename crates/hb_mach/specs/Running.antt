@@ -7,8 +7,8 @@ use Rattle.hb_io.specs.Taken.{appended, TookFront}
 use Rattle.hb_runs.specs.Stepping.{after, answers}
 use Rattle.hb_script.specs.Lines.{line_of, lines_of}
 use Rattle.hb_mach.specs.Run.{events, stop_of}
-use Rattle.hb_mach.specs.State.{State}
-use Rattle.hb_mach.specs.Table.{table}
+use Rattle.hb_isa.specs.State.{State}
+use Rattle.hb_isa.specs.Table.{table}
 
 -- the lines of the port events of the first steps
 unfoldable pub lines_shown : State → ℕ → List ℕ

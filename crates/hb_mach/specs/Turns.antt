@@ -3,8 +3,8 @@ use Rattle.std.specs.Prelude.{◌≡◌, ℕ, List, Option, IsSome}
 use Rattle.hb_io.specs.Counts.{Rose}
 use Rattle.hb_io.specs.Taken.{appended, TookFront}
 use Rattle.hb_script.specs.Lines.{line_of}
-use Rattle.hb_mach.specs.State.{State}
-use Rattle.hb_mach.specs.Table.{table}
+use Rattle.hb_isa.specs.State.{State}
+use Rattle.hb_isa.specs.Table.{table}
 use Rattle.hb_mach.specs.declared.turn.Turn.{Turn}
 use Rattle.hb_mach.specs.declared.turn.Turn.TheVariants.{Goes, Ends, Fails}
 

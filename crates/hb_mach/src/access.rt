@@ -2,8 +2,8 @@ ghost use Rattle.std.specs.Prelude.{length, ◌≡◌, ◌<◌, position};
 ghost use Rattle.hb_asm.specs.Arithmetic as arithmetic;
 ghost use Rattle.hb_asm.specs.Arithmetic.{load_size, store_size};
 ghost use Rattle.hb_base.specs.Inputs.{first_value};
-ghost use Rattle.hb_mach.specs.Memory.{load, store};
-ghost use Rattle.hb_mach.specs.Table.{is_read_at, is_written_at, loading, loading_memory, loading_port, reading, storing, storing_memory, storing_port};
+ghost use Rattle.hb_isa.specs.Memory.{load, store};
+ghost use Rattle.hb_isa.specs.Table.{is_read_at, is_written_at, loading, loading_memory, loading_port, reading, storing, storing_memory, storing_port};
 ghost use Rattle.hb_script.specs.Lines.{IsShown};
 
 use crate::arithmetic::{
@@ -16,7 +16,7 @@ use hb_base::{Step, Stop};
 
 impl Machine {
     /// Loads from memory or from a port.
-    #[tactic(auto, unfolding(crate::specs::Table::loading))]
+    #[tactic(auto, unfolding(hb_isa::specs::Table::loading))]
     pub(crate) fn load_word(&mut self, op: LoadOp, rd: u8, address: u32) -> Step
         ensures turn { (self.new, result) ≡ loading op rd address self.old }
         ensures shown { IsShown self.new.ports result }
@@ -27,7 +27,7 @@ impl Machine {
         self.load_aligned(op, rd, address)
     }
 
-    #[tactic(auto, unfolding(crate::specs::Table::loading_memory))]
+    #[tactic(auto, unfolding(hb_isa::specs::Table::loading_memory))]
     fn load_aligned(&mut self, op: LoadOp, rd: u8, address: u32) -> Step
         ensures turn { (self.new, result) ≡ loading_memory (load self.old.memory address (load_size op)) op rd address self.old }
         ensures shown { IsShown self.new.ports result }
@@ -38,7 +38,7 @@ impl Machine {
         }
     }
 
-    #[tactic(auto, unfolding(crate::specs::Table::loading_port))]
+    #[tactic(auto, unfolding(hb_isa::specs::Table::loading_port))]
     fn load_port(&mut self, op: LoadOp, rd: u8, address: u32) -> Step
         ensures turn { (self.new, result) ≡ loading_port (position (is_read_at address (load_size op)) self.old.ports) op rd self.old }
         ensures shown { IsShown self.new.ports result }
@@ -49,7 +49,7 @@ impl Machine {
         }
     }
 
-    #[tactic(auto, using(crate::proofs::PortLaws::reads), unfolding(crate::specs::Table::reading))]
+    #[tactic(auto, using(crate::proofs::PortLaws::reads), unfolding(hb_isa::specs::Table::reading))]
     fn read_port(&mut self, port: u32, op: LoadOp, rd: u8) -> Step
         requires few { port < 256 }
         requires there { port < length self.old.ports }
@@ -67,7 +67,7 @@ impl Machine {
     }
 
     /// Stores to memory or to a port.
-    #[tactic(auto, unfolding(crate::specs::Table::storing))]
+    #[tactic(auto, unfolding(hb_isa::specs::Table::storing))]
     pub(crate) fn store_word(&mut self, op: StoreOp, address: u32, word: u32) -> Step
         ensures turn { (self.new, result) ≡ storing op address word self.old }
         ensures shown { IsShown self.new.ports result }
@@ -78,7 +78,7 @@ impl Machine {
         self.store_aligned(op, address, word)
     }
 
-    #[tactic(auto, unfolding(crate::specs::Table::storing_memory))]
+    #[tactic(auto, unfolding(hb_isa::specs::Table::storing_memory))]
     fn store_aligned(&mut self, op: StoreOp, address: u32, word: u32) -> Step
         ensures turn { (self.new, result) ≡ storing_memory (store self.old.memory address (store_size op) word) op address word self.old }
         ensures shown { IsShown self.new.ports result }
@@ -90,7 +90,7 @@ impl Machine {
         self.store_port(op, address, word)
     }
 
-    #[tactic(auto, using(crate::proofs::PortLaws::writes), unfolding(crate::specs::Table::storing_port))]
+    #[tactic(auto, using(crate::proofs::PortLaws::writes), unfolding(hb_isa::specs::Table::storing_port))]
     fn store_port(&mut self, op: StoreOp, address: u32, word: u32) -> Step
         ensures turn { (self.new, result) ≡ storing_port (position (is_written_at address (store_size op)) self.old.ports) (arithmetic.low_part op word) self.old }
         ensures shown { IsShown self.new.ports result }

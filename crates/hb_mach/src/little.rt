@@ -1,8 +1,8 @@
 ghost use Rattle.std.specs.Prelude.{◌≡◌, ◌+◌, ◌^◌, ◌<◌, ◌≤◌, length};
-ghost use Rattle.hb_mach.specs.Memory.{number_at, put_number};
+ghost use Rattle.hb_isa.specs.Memory.{number_at, put_number};
 
 /// The number in one byte.
-#[tactic(auto, unfolding(crate::specs::Memory::number_at))]
+#[tactic(auto, unfolding(hb_isa::specs::Memory::number_at))]
 pub fn byte(bytes: &[u8], place: usize) -> u32
     requires { place < length bytes.now }
     ensures value { result ≡ number_at bytes.now place 1 }
@@ -31,7 +31,7 @@ pub fn word(bytes: &[u8], place: usize) -> u32
 }
 
 /// Puts the lowest byte of a number.
-#[tactic(auto, unfolding(crate::specs::Memory::put_number))]
+#[tactic(auto, unfolding(hb_isa::specs::Memory::put_number))]
 pub fn put_byte(bytes: &mut [u8], place: usize, number: u32)
     requires { place < length bytes.old }
     ensures { bytes.new ≡ put_number bytes.old place 1 number }

@@ -3,13 +3,14 @@ ghost use Rattle.hb_asm.specs.Coding.{decode_of};
 ghost use Rattle.hb_base.specs.Ports.{ArePorts};
 ghost use Rattle.hb_image.specs.Rules.{IsImage};
 ghost use Rattle.hb_base.specs.Inputs.{AreInputs};
-ghost use Rattle.hb_mach.specs.Memory.{byte_at};
+ghost use Rattle.hb_isa.specs.Memory.{byte_at};
 ghost use Rattle.hb_mach.specs.Run.{mach, stop_of};
 ghost use Rattle.hb_mach.specs.Soundness.{IsOwnEnd, is_own};
-ghost use Rattle.hb_mach.specs.State.{start, with_register};
-ghost use Rattle.hb_mach.specs.State as state;
-ghost use Rattle.hb_mach.specs.Table;
-ghost use Rattle.hb_mach.specs.Table.{goes_to, goes_on, ending, instruction_at_pc};
+ghost use Rattle.hb_isa.specs.State.{with_register};
+ghost use Rattle.hb_mach.specs.State.{start};
+ghost use Rattle.hb_isa.specs.State as state;
+ghost use Rattle.hb_isa.specs.Table;
+ghost use Rattle.hb_isa.specs.Table.{goes_to, goes_on, ending, instruction_at_pc};
 ghost use Rattle.hb_runs.specs.Outcome.{Grows};
 ghost use Rattle.hb_script.specs.Ends.{IsNamed};
 ghost use Rattle.hb_script.specs.Lines.{IsShown};
@@ -41,7 +42,7 @@ pub struct Machine {
 }
 
 impl Model for Machine {
-    ghost use Rattle.hb_mach.specs.State.{State};
+    ghost use Rattle.hb_isa.specs.State.{State};
     ghost use Rattle.hb_mach.specs.Soundness.{IsSound};
 
     ghost Value = { State };

@@ -1,5 +1,5 @@
 ghost use Rattle.std.specs.Prelude.{◌≡◌, ◌<◌, ◌≤◌, length, position, IfSome};
-ghost use Rattle.hb_mach.specs.Table as table;
+ghost use Rattle.hb_isa.specs.Table as table;
 
 use hb_base::{Dir, Port};
 

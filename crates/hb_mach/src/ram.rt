@@ -1,7 +1,7 @@
 ghost use Rattle.std.specs.Prelude.{◌≡◌, ◌+◌, ◌<◌, ◌^◌, IfOk, if◌then◌else◌, Some, None};
 ghost use Rattle.std.specs.Bool.{OnFalse};
 ghost use Rattle.hb_asm.specs.Arithmetic.{load_size, store_size};
-ghost use Rattle.hb_mach.specs.Memory.{zeroed, load, store, byte_at};
+ghost use Rattle.hb_isa.specs.Memory.{zeroed, load, store, byte_at};
 
 use crate::arithmetic::{bytes_loaded, bytes_stored};
 use crate::region::Region;
@@ -27,7 +27,7 @@ pub struct Ram {
 }
 
 impl Model for Ram {
-    ghost use Rattle.hb_mach.specs.Memory as memory;
+    ghost use Rattle.hb_isa.specs.Memory as memory;
 
     ghost Value = { memory.Memory };
 
@@ -36,7 +36,7 @@ impl Model for Ram {
 
 impl Ram {
     /// All bytes zero, for areas and a stack of so many bytes.
-    #[tactic(auto, unfolding(crate::specs::Memory::zeroed))]
+    #[tactic(auto, unfolding(hb_isa::specs::Memory::zeroed))]
     pub fn zeroed(alloc: Global, areas: u32, stack: u32) -> Result<Ram, Memory>
         requires { stack + 1024 < 2 ^ 30 }
         ensures { IfOk result (λ ram. ram ≡ zeroed areas stack) }
@@ -48,7 +48,7 @@ impl Ram {
     }
 
     /// The number that a load reads, if all its bytes stand in one region.
-    #[tactic(auto, using(crate::proofs::MemoryLaws::bounds), unfolding(crate::specs::Memory::load))]
+    #[tactic(auto, using(hb_isa::proofs::MemoryLaws::bounds), unfolding(hb_isa::specs::Memory::load))]
     pub fn load(&self, op: LoadOp, address: u32) -> Option<u32>
         ensures { result ≡ load self.now address (load_size op) }
     {
@@ -63,7 +63,7 @@ impl Ram {
     }
 
     /// Stores the low bytes of a word, if they all stand in one region, and answers whether they do.
-    #[tactic(auto, using(crate::proofs::MemoryLaws::bounds), unfolding(crate::specs::Memory::store))]
+    #[tactic(auto, using(hb_isa::proofs::MemoryLaws::bounds), unfolding(hb_isa::specs::Memory::store))]
     pub fn store(&mut self, op: StoreOp, address: u32, word: u32) -> bool
         ensures stored { store self.old address (store_size op) word ≡ (if result then Some self.new else None) }
         ensures refused { OnFalse result (self.new ≡ self.old) }
@@ -81,7 +81,7 @@ impl Ram {
     }
 
     /// The byte at an address of the areas or the stack region.
-    #[tactic(auto, unfolding(crate::specs::Memory::byte_at))]
+    #[tactic(auto, unfolding(hb_isa::specs::Memory::byte_at))]
     pub fn byte(&self, address: u32) -> Option<u8>
         ensures { result ≡ byte_at self.now address }
     {

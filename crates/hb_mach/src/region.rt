@@ -1,7 +1,7 @@
 ghost use Rattle.std.specs.Prelude.{◌≡◌, ◌+◌, ◌*◌, ◌/◌, ◌%◌, ◌<◌, ◌≤◌, true, length, replicate, IfOk, vec_len, slice_index, slice_set};
 ghost use Rattle.hb_asm.specs.Arithmetic.{load_size, store_size};
-ghost use Rattle.hb_mach.specs.Memory.{number_in, put_in, end_of};
-ghost use Rattle.hb_mach.specs.Memory as memory;
+ghost use Rattle.hb_isa.specs.Memory.{number_in, put_in, end_of};
+ghost use Rattle.hb_isa.specs.Memory as memory;
 
 use crate::little::{byte, half, put_byte, put_half, put_word, word};
 use hb_asm::{LoadOp, StoreOp};
@@ -17,7 +17,7 @@ pub struct Region {
 }
 
 impl Model for Region {
-    ghost use Rattle.hb_mach.specs.Memory as memory;
+    ghost use Rattle.hb_isa.specs.Memory as memory;
 
     ghost Value = { memory.Region };
 

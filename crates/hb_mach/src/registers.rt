@@ -1,5 +1,5 @@
 ghost use Rattle.std.specs.Prelude.{◌≡◌, replicate};
-ghost use Rattle.hb_mach.specs.State.{read_register, write_register};
+ghost use Rattle.hb_isa.specs.State.{read_register, write_register};
 
 use std::marker::Model;
 

@@ -1,8 +1,8 @@
 ghost use Rattle.std.specs.Prelude.{◌≡◌, IsTrue};
 ghost use Rattle.hb_mach.specs.Soundness.{is_own};
-ghost use Rattle.hb_mach.specs.State as state;
-ghost use Rattle.hb_mach.specs.Table;
-ghost use Rattle.hb_mach.specs.Table.{called, computed, branching, jumping, execute, table};
+ghost use Rattle.hb_isa.specs.State as state;
+ghost use Rattle.hb_isa.specs.Table;
+ghost use Rattle.hb_isa.specs.Table.{called, computed, branching, jumping, execute, table};
 ghost use Rattle.hb_script.specs.Ends.{IsNamed};
 ghost use Rattle.hb_script.specs.Lines.{IsShown};
 
@@ -13,7 +13,7 @@ use hb_base::{Step, Stop};
 
 impl Machine {
     /// Puts a word into a register, and goes on.
-    #[tactic(auto, unfolding(crate::specs::Table::computed))]
+    #[tactic(auto, unfolding(hb_isa::specs::Table::computed))]
     pub(crate) fn compute(&mut self, rd: u8, word: u32) -> Step
         ensures turn { (self.new, result) ≡ computed rd word self.old }
         ensures shown { IsShown self.new.ports result }
@@ -23,7 +23,7 @@ impl Machine {
         Step::Going
     }
 
-    #[tactic(auto, unfolding(crate::specs::Table::branching))]
+    #[tactic(auto, unfolding(hb_isa::specs::Table::branching))]
     fn branch(&mut self, taken: bool, target: u32) -> Step
         ensures turn { (self.new, result) ≡ branching taken target self.old }
         ensures shown { IsShown self.new.ports result }
@@ -39,7 +39,7 @@ impl Machine {
         Step::Going
     }
 
-    #[tactic(auto, unfolding(crate::specs::Table::jumping))]
+    #[tactic(auto, unfolding(hb_isa::specs::Table::jumping))]
     fn jump(&mut self, rd: u8, target: u32) -> Step
         ensures turn { (self.new, result) ≡ jumping rd target self.old }
         ensures shown { IsShown self.new.ports result }
@@ -78,7 +78,7 @@ impl Machine {
         self.pc.wrapping_add(imm.cast_unsigned())
     }
 
-    #[tactic(auto, unfolding(crate::specs::Table::execute))]
+    #[tactic(auto, unfolding(hb_isa::specs::Table::execute))]
     fn execute(&mut self, instr: Instr) -> Step
         ensures turn { (self.new, result) ≡ execute instr self.old }
         ensures shown { IsShown self.new.ports result }
@@ -118,7 +118,7 @@ impl Machine {
 
     /// Does one step of the machine's table, and answers what it shows. After an end it answers that end, and
     /// changes and counts nothing.
-    #[tactic(auto, unfolding(crate::specs::Table::table, crate::specs::Table::running, crate::specs::Table::fetched))]
+    #[tactic(auto, unfolding(hb_isa::specs::Table::table, hb_isa::specs::Table::running, hb_isa::specs::Table::fetched))]
     pub fn step(&mut self) -> Step
         ensures turn { (self.new, result) ≡ table self.old }
         ensures shown { IsShown self.new.ports result }

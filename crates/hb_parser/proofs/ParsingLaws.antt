@@ -1,5 +1,5 @@
 -- What the parts of the parser say together. A list of tokens is one program at most.
-use Rattle.std.proofs.Common.{◌≡◌, ◌<◌, ◌≤◌, ◌⊎◌, ⊎_elim, ℕ, List, [], ◌∷◌, Option, Some, None, codes, refl, sym, ap, subst, ◌∙◌, arith}
+use Rattle.std.proofs.Common.{◌≡◌, ◌<◌, ◌≤◌, ◌*◌, length, ◌⊎◌, ⊎_elim, ℕ, List, [], ◌∷◌, Option, Some, None, codes, refl, sym, ap, subst, ◌∙◌, arith}
 use Rattle.std.specs.Prelude.{Result, Ok, Err, IfOk, IfErr, MatchResult, All}
 use Rattle.std.specs.List.{Contains}
 use Rattle.std.proofs.lemmas.List.Elements.{All-contains}
@@ -11,7 +11,9 @@ use Rattle.hb_base.specs.declared.refusal.Fault.TheVariants.{Refused, Memory}
 use Rattle.hb_tokens.specs.declared.token.Token.{Token}
 use Rattle.hb_base.specs.Faults.{IfRefused}
 use Rattle.hb_tree.specs.declared.declaration.Program.{Program}
+use Rattle.hb_tree.specs.Things.{program_things}
 use Rattle.hb_grammar.specs.Declarations.{Derives}
+use Rattle.hb_grammar_laws.proofs.DeclarationsFew.{program_few}
 use Rattle.hb_read_patterns.specs.Moves.{pat_start}
 use Rattle.hb_read_declarations.specs.declared.node.DeclNode.{DeclNode}
 use Rattle.hb_read_declarations.specs.Nodes.{program_nodes}
@@ -24,6 +26,12 @@ use Rattle.hb_build_program.proofs.Parsed.{derived_parsed}
 use Rattle.hb_build_program.proofs.ProgramLaws.{programs_alike}
 use Rattle.hb_parser.specs.Parsing.{FirstWrong, HasNodes, Parses, IsDeepForm, FirstFault, wrong_token, deep_form, AreNodes, HasTree, Builds}
 use Rattle.hb_parser.proofs.SyntaxLaws.{nodes_alone, derives_right, wrong_alone}
+
+abbrev pub wrong_at : Place → Refusal
+wrong_at place = record { code = E04; place = place; detail = codes "-" }
+
+abbrev deep_at : Place → Refusal
+deep_at place = record { code = E29; place = place; detail = codes "depth" }
 
 -- a list of tokens is one program at most
 pub program_alone : {ts : List Token} {p q : Program} → Derives ts p → Derives ts q → p ≡ q
@@ -54,6 +62,14 @@ no_first places {a} e h = nowhere (subst (λ places. Contains places a) e h.0)
   where
     nowhere : Contains [] a → ⊥
     nowhere h = omega (arith, h.1)
+
+-- a list of tokens has one first fault at most
+pub fault_alone : {ts : List Token} {a b : Refusal} → FirstFault ts a → FirstFault ts b → a ≡ b
+fault_alone (wrong_token p v) (wrong_token q w) = ap wrong_at (wrong_alone v w)
+fault_alone (wrong_token p v) (deep_form q program d first) = absurd (derives_right d v)
+fault_alone (deep_form p program d first) (wrong_token q w) = absurd (derives_right d w)
+fault_alone (deep_form p program d first) (deep_form q other e second) =
+    ap deep_at (first_alone (too_deep program) first (subst (λ (x : Program). IsFirst (Some q) (too_deep x)) (program_alone e d) second))
 
 -- where the tokens are read
 
@@ -90,22 +106,22 @@ deep_is Memory d deep refusal fault = tt
 deep_is (Refused other) d deep refusal (wrong_token place wrong) = absurd (derives_right d wrong)
 deep_is {p} (Refused other) d deep refusal (deep_form place q e first) =
     deep.1 ∙ ap deep_at (first_alone (too_deep p) deep.0 (subst (λ (x : Program). IsFirst (Some place) (too_deep x)) (program_alone e d) first))
-  where
-    deep_at : Place → Refusal
-    deep_at place = record { code = E29; place = place; detail = codes "depth" }
 
-shallow_no_fault : {ts : List Token} {p : Program} → Parses ts p → (refusal : Refusal) → FirstFault ts refusal → ⊥
-shallow_no_fault parses refusal (wrong_token place wrong) = derives_right parses.derives wrong
-shallow_no_fault parses refusal (deep_form place q e first) = no_first (too_deep q) (ap too_deep (program_alone e parses.derives) ∙ parses.shallow) first
+-- what is parsed has no fault
+pub parsed_no_fault : {ts : List Token} {p : Program} → Parses ts p → (refusal : Refusal) → FirstFault ts refusal → ⊥
+parsed_no_fault parses refusal (wrong_token place wrong) = derives_right parses.derives wrong
+parsed_no_fault parses refusal (deep_form place q e first) = no_first (too_deep q) (ap too_deep (program_alone e parses.derives) ∙ parses.shallow) first
 
 pub tree_refused : {ts : List Token} {nodes : List DeclNode} {result : Result Program Fault} → HasNodes ts nodes → Builds nodes result → (refusal : Refusal) → FirstFault ts refusal → MatchResult result (λ answer. ⊥) (IfRefused (λ other. other ≡ refusal))
 tree_refused {ts} {result = Err f} h builds refusal fault = deep_is f h.derives (builds.refused ts h.program h.derives h.are) refusal fault
-tree_refused {result = Ok answer} h builds refusal fault = shallow_no_fault (tree_found h builds) refusal fault
+tree_refused {result = Ok answer} h builds refusal fault = parsed_no_fault (tree_found h builds) refusal fault
+
+-- what is parsed has at most four things for each token
+pub parsed_few : {ts : List Token} {result : Result Program Fault} → IfOk result (Parses ts) → IfOk result (λ p. program_things p ≤ 4 * length ts)
+parsed_few {result = Ok p} found = program_few found.derives
+parsed_few {result = Err f} found = tt
 
 -- where a token is wrong
-
-abbrev pub wrong_at : Place → Refusal
-wrong_at place = record { code = E04; place = place; detail = codes "-" }
 
 pub wrong_faults : {ts : List Token} {place : Place} (f : Fault) → FirstWrong ts place → IfRefused (λ refusal. refusal ≡ wrong_at place) f → IfRefused (FirstFault ts) f
 wrong_faults {ts} {place} (Refused refusal) wrong e = subst (FirstFault ts) (sym e) (wrong_token place wrong)

@@ -1,8 +1,9 @@
-ghost use Rattle.std.specs.Prelude.{◌≡◌, List, IfOk, IfErr, IsTrue, MatchResult};
+ghost use Rattle.std.specs.Prelude.{◌≡◌, ◌≤◌, ◌*◌, List, length, IfOk, IfErr, IsTrue, MatchResult};
 ghost use Rattle.hb_base.specs.declared.refusal.Refusal.{Refusal as ARefusal};
 ghost use Rattle.hb_base.specs.declared.refusal.Fault.TheVariants.{Memory as OutOfMemory};
 ghost use Rattle.hb_tokens.specs.Ends.{ends_once};
 ghost use Rattle.hb_base.specs.Faults.{IfRefused};
+ghost use Rattle.hb_tree.specs.Things.{program_things};
 ghost use Rattle.hb_tree.specs.declared.declaration.Program.{Program as Tree};
 ghost use Rattle.hb_parser.specs.Parsing.{FirstWrong, HasNodes, AreNodes, Parses, FirstFault, HasTree, Builds};
 
@@ -68,6 +69,9 @@ pub fn parse(alloc: Global, tokens: &Tokens) -> Result<Program, Fault>
     // Neither answer is given in place of the other.
     ensures only { (p : Tree) → Parses tokens.now.list p → MatchResult result (λ answer. answer ≡ p) (λ fault. fault ≡ OutOfMemory) }
     ensures refused { (refusal : ARefusal) → FirstFault tokens.now.list refusal → MatchResult result (λ answer. ⊥) (IfRefused (λ other. other ≡ refusal)) }
+
+    // What can get a number in the program is at most four things for each token.
+    ensures few { IfOk result (λ p. program_things p ≤ 4 * length tokens.now.list) }
 {
     match read_nodes(alloc, tokens.list.as_slice()) {
         Ok(Ok(nodes)) => shallow_program(alloc, nodes.as_slice()),

@@ -160,8 +160,8 @@ good_mapped expr f (Some a) e g = good_as expr (f a) e (g a refl)
 
 next_good : {S : Type 0} (expr : Reader S Out) (fs : List Frame) (out : Out) (t : Token) {y : InitState S} → next fs out t ≡ Some y → GoodState expr y
 next_good expr [] out t e = cc
-next_good expr (InEach ∷ fs) out t e = next_good expr fs (put out node.InitEach) t e
-next_good expr (InField k ∷ fs) out t e = good_if expr (is_bar t) (at fs (Field (k + 1)) (put out node.InitField)) _ e tt (λ e. good_if expr (is_close t) (at fs Over (put (put out node.InitField) (node.InitFields (k + 1)))) None e tt (λ e. cc))
+next_good expr (InEach z ∷ fs) out t e = next_good expr fs (put out (node.InitEach z)) t e
+next_good expr (InField z k ∷ fs) out t e = good_if expr (is_bar t) (at fs (Field z (k + 1)) (put out node.InitField)) _ e tt (λ e. good_if expr (is_close t) (at fs Over (put (put out node.InitField) (node.InitFields z (k + 1)))) None e tt (λ e. cc))
 
 cell_good : {S : Type 0} (expr : Reader S Out) (fs : List Frame) (p : Place) (s : S) (out : Out) (t : Token) (o : Option S) (q : Option Out) {y : InitState S} → Reached expr s → expr.move s t ≡ o → in_cell fs p out o q t ≡ Some y → GoodState expr y
 cell_good expr fs p s out t (Some r) q h d e = good_as expr (at fs (Cell p r) out) e (after h d)
@@ -169,12 +169,12 @@ cell_good expr fs p s out t None (Some c) h d e = next_good expr fs (put_cell ou
 cell_good expr fs p s out t None None h d e = cc
 
 move_good : {S : Type 0} (expr : Reader S Out) (fs : List Frame) (n : Now S) (out : Out) (t : Token) {y : InitState S} → Good expr n → move_now expr fs n out t ≡ Some y → GoodState expr y
-move_good expr fs Want out t g e = good_if expr (is_each t) (at fs EachWord out) _ e tt (λ e. good_if expr (is_fields t) (at fs FieldsWord out) _ e tt (λ e. good_mapped expr (λ r. at fs (Cell t.place r) out) (expr.move expr.start t) e (λ r d. after at_start d)))
-move_good expr fs EachWord out t g e = good_mapped expr (λ n. at fs EachName (out ++ named n)) (var t) e (λ a d. tt)
-move_good expr fs EachName out t g e = good_mapped expr (λ p. at (InEach ∷ fs) Want out) (this_word word.RightArrow t) e (λ a d. tt)
-move_good expr fs FieldsWord out t g e = good_mapped expr (λ p. at fs (Field 0) out) (mark 91 t) e (λ a d. tt)
-move_good expr fs (Field k) out t g e = good_mapped expr (λ n. at fs (FieldName k) (out ++ named n)) (var t) e (λ a d. tt)
-move_good expr fs (FieldName k) out t g e = good_mapped expr (λ p. at (InField k ∷ fs) Want out) (this_word word.LeftArrow t) e (λ a d. tt)
+move_good expr fs Want out t g e = good_if expr (is_each t) (at fs (EachWord t.place) out) _ e tt (λ e. good_if expr (is_fields t) (at fs (FieldsWord t.place) out) _ e tt (λ e. good_mapped expr (λ r. at fs (Cell t.place r) out) (expr.move expr.start t) e (λ r d. after at_start d)))
+move_good expr fs (EachWord z) out t g e = good_mapped expr (λ n. at fs (EachName z) (out ++ named n)) (var t) e (λ a d. tt)
+move_good expr fs (EachName z) out t g e = good_mapped expr (λ p. at (InEach z ∷ fs) Want out) (this_word word.RightArrow t) e (λ a d. tt)
+move_good expr fs (FieldsWord z) out t g e = good_mapped expr (λ p. at fs (Field z 0) out) (mark 91 t) e (λ a d. tt)
+move_good expr fs (Field z k) out t g e = good_mapped expr (λ n. at fs (FieldName z k) (out ++ named n)) (var t) e (λ a d. tt)
+move_good expr fs (FieldName z k) out t g e = good_mapped expr (λ p. at (InField z k ∷ fs) Want out) (this_word word.LeftArrow t) e (λ a d. tt)
 move_good expr fs (Cell p s) out t g e = cell_good expr fs p s out t (expr.move s t) (expr.done s) g refl e
 move_good expr fs Over out t g e = next_good expr fs out t e
 
@@ -196,7 +196,7 @@ also_init : (c : ℕ) → member c expr_codes ≡ true → member c init_codes �
 also_init c e = member_right c (29 ∷ 30 ∷ []) expr_codes e
 
 init_begins : {S : Type 0} {expr : Reader S Out} → ExprKnown expr → (t : Token) {y : InitState S} → move_now expr [] Want [] t ≡ Some y → member (code t) init_codes ≡ true
-init_begins {expr} k t e = begin_if (is_each t) (at [] EachWord []) _ e (λ b. ap (λ k. member (kind_code k) init_codes) (word_holds word.Each t b)) (λ e. begin_if (is_fields t) (at [] FieldsWord []) _ e (λ b. ap (λ k. member (kind_code k) init_codes) (word_holds word.Fields t b)) (λ e. mapped_from (λ r. at [] (Cell t.place r) []) (expr.move expr.start t) e (λ r d. also_init (code t) (k.begins d))))
+init_begins {expr} k t e = begin_if (is_each t) (at [] (EachWord t.place) []) _ e (λ b. ap (λ k. member (kind_code k) init_codes) (word_holds word.Each t b)) (λ e. begin_if (is_fields t) (at [] (FieldsWord t.place) []) _ e (λ b. ap (λ k. member (kind_code k) init_codes) (word_holds word.Fields t b)) (λ e. mapped_from (λ r. at [] (Cell t.place r) []) (expr.move expr.start t) e (λ r d. also_init (code t) (k.begins d))))
 
 next_ends : {S : Type 0} (fs : List Frame) (out : Out) (t : Token) {y : InitState S} → next fs out t ≡ Some y → inside (code t) ≡ true
 next_ends fs out t e = next_cases fs out t e (λ b. ap (λ k. inside (kind_code k)) (word_holds word.Bar t b)) (λ b. ap (λ k. inside (kind_code k)) (close_holds t b))
@@ -216,12 +216,12 @@ init_ends k fs Over out t d e = next_ends fs out t e
 init_ends k fs n out t d e = cc
 
 init_takes : {S : Type 0} {expr : Reader S Out} → ExprKnown expr → (fs : List Frame) (n : Now S) (out : Out) (t : Token) {y : InitState S} → move_now expr fs n out t ≡ Some y → inside (code t) ≡ true
-init_takes {expr} k fs Want out t e = begin_if (is_each t) (at fs EachWord out) _ e (λ b. ap (λ k. inside (kind_code k)) (word_holds word.Each t b)) (λ e. begin_if (is_fields t) (at fs FieldsWord out) _ e (λ b. ap (λ k. inside (kind_code k)) (word_holds word.Fields t b)) (λ e. mapped_from (λ r. at fs (Cell t.place r) out) (expr.move expr.start t) e (λ r d. k.takes d)))
-init_takes k fs EachWord out t e = mapped_from (λ n. at fs EachName (out ++ named n)) (var t) e (λ n d. one_inside (code t) 0 (var_code t n d) refl)
-init_takes k fs EachName out t e = mapped_from (λ p. at (InEach ∷ fs) Want out) (this_word word.RightArrow t) e (λ p d. one_inside (code t) 48 (word_is_code word.RightArrow t p d) refl)
-init_takes k fs FieldsWord out t e = mapped_from (λ p. at fs (Field 0) out) (mark 91 t) e (λ p d. one_inside (code t) 151 (mark_code 91 t p d) refl)
-init_takes k fs (Field n) out t e = mapped_from (λ a. at fs (FieldName n) (out ++ named a)) (var t) e (λ a d. one_inside (code t) 0 (var_code t a d) refl)
-init_takes k fs (FieldName n) out t e = mapped_from (λ p. at (InField n ∷ fs) Want out) (this_word word.LeftArrow t) e (λ p d. one_inside (code t) 47 (word_is_code word.LeftArrow t p d) refl)
+init_takes {expr} k fs Want out t e = begin_if (is_each t) (at fs (EachWord t.place) out) _ e (λ b. ap (λ k. inside (kind_code k)) (word_holds word.Each t b)) (λ e. begin_if (is_fields t) (at fs (FieldsWord t.place) out) _ e (λ b. ap (λ k. inside (kind_code k)) (word_holds word.Fields t b)) (λ e. mapped_from (λ r. at fs (Cell t.place r) out) (expr.move expr.start t) e (λ r d. k.takes d)))
+init_takes k fs (EachWord z) out t e = mapped_from (λ n. at fs (EachName z) (out ++ named n)) (var t) e (λ n d. one_inside (code t) 0 (var_code t n d) refl)
+init_takes k fs (EachName z) out t e = mapped_from (λ p. at (InEach z ∷ fs) Want out) (this_word word.RightArrow t) e (λ p d. one_inside (code t) 48 (word_is_code word.RightArrow t p d) refl)
+init_takes k fs (FieldsWord z) out t e = mapped_from (λ p. at fs (Field z 0) out) (mark 91 t) e (λ p d. one_inside (code t) 151 (mark_code 91 t p d) refl)
+init_takes k fs (Field z n) out t e = mapped_from (λ a. at fs (FieldName z n) (out ++ named a)) (var t) e (λ a d. one_inside (code t) 0 (var_code t a d) refl)
+init_takes k fs (FieldName z n) out t e = mapped_from (λ p. at (InField z n ∷ fs) Want out) (this_word word.LeftArrow t) e (λ p d. one_inside (code t) 47 (word_is_code word.LeftArrow t p d) refl)
 init_takes {expr} k fs (Cell p s) out t e = cell_ends k fs p s out t (expr.move s t) (expr.done s) refl e
 init_takes k fs Over out t e = next_ends fs out t e
 

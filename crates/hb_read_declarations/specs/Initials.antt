@@ -41,8 +41,8 @@ is_fields t = is_some (this_word word.Fields t)
 -- after a whole initialiser: `|` and `]` go on with the innermost fields
 abbrev pub next : {S : Type 0} → List Frame → Out → Token → Option (InitState S)
 next [] nodes t = None
-next (InEach ∷ frames) nodes t = next frames (put nodes node.InitEach) t
-next (InField count ∷ frames) nodes t = if is_bar t then Some (at frames (Field (count + 1)) (put nodes node.InitField)) else if is_close t then Some (at frames Over (put (put nodes node.InitField) (node.InitFields (count + 1)))) else None
+next (InEach place ∷ frames) nodes t = next frames (put nodes (node.InitEach place)) t
+next (InField place count ∷ frames) nodes t = if is_bar t then Some (at frames (Field place (count + 1)) (put nodes node.InitField)) else if is_close t then Some (at frames Over (put (put nodes node.InitField) (node.InitFields place (count + 1)))) else None
 
 -- the expression goes on where it can
 abbrev pub in_cell : {S : Type 0} → List Frame → Place → Out → Option S → Option Out → Token → Option (InitState S)
@@ -51,23 +51,23 @@ in_cell frames place nodes None (Some cell) t = next frames (put_cell nodes plac
 in_cell frames place nodes None None t = None
 
 abbrev pub begin : {S : Type 0} → Reader S Out → List Frame → Out → Token → Option (InitState S)
-begin expr frames nodes t = if is_each t then Some (at frames EachWord nodes) else if is_fields t then Some (at frames FieldsWord nodes) else mapped (λ r. at frames (Cell t.place r) nodes) (expr.move expr.start t)
+begin expr frames nodes t = if is_each t then Some (at frames (EachWord t.place) nodes) else if is_fields t then Some (at frames (FieldsWord t.place) nodes) else mapped (λ r. at frames (Cell t.place r) nodes) (expr.move expr.start t)
 
 abbrev pub move_now : {S : Type 0} → Reader S Out → List Frame → Now S → Out → Token → Option (InitState S)
 move_now expr frames Want nodes t = begin expr frames nodes t
-move_now expr frames EachWord nodes t = mapped (λ n. at frames EachName (nodes ++ named n)) (var t)
-move_now expr frames EachName nodes t = mapped (λ p. at (InEach ∷ frames) Want nodes) (this_word word.RightArrow t)
-move_now expr frames FieldsWord nodes t = mapped (λ p. at frames (Field 0) nodes) (mark 91 t)
-move_now expr frames (Field count) nodes t = mapped (λ n. at frames (FieldName count) (nodes ++ named n)) (var t)
-move_now expr frames (FieldName count) nodes t = mapped (λ p. at (InField count ∷ frames) Want nodes) (this_word word.LeftArrow t)
+move_now expr frames (EachWord place) nodes t = mapped (λ n. at frames (EachName place) (nodes ++ named n)) (var t)
+move_now expr frames (EachName place) nodes t = mapped (λ p. at (InEach place ∷ frames) Want nodes) (this_word word.RightArrow t)
+move_now expr frames (FieldsWord place) nodes t = mapped (λ p. at frames (Field place 0) nodes) (mark 91 t)
+move_now expr frames (Field place count) nodes t = mapped (λ n. at frames (FieldName place count) (nodes ++ named n)) (var t)
+move_now expr frames (FieldName place count) nodes t = mapped (λ p. at (InField place count ∷ frames) Want nodes) (this_word word.LeftArrow t)
 move_now expr frames (Cell place s) nodes t = in_cell frames place nodes (expr.move s t) (expr.done s) t
 move_now expr frames Over nodes t = next frames nodes t
 
 -- no fields are open
 abbrev pub settled : List Frame → Out → Option Out
 settled [] nodes = Some nodes
-settled (InEach ∷ frames) nodes = settled frames (put nodes node.InitEach)
-settled (InField count ∷ frames) nodes = None
+settled (InEach place ∷ frames) nodes = settled frames (put nodes (node.InitEach place))
+settled (InField place count ∷ frames) nodes = None
 
 abbrev pub settled_cell : List Frame → Place → Out → Option Out → Option Out
 settled_cell frames place nodes None = None

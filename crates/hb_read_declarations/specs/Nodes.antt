@@ -110,9 +110,9 @@ fields_count (MoreFieldInits name i fs) = 1 + fields_count fs
 
 abbrev mutual
   pub init_nodes : InitExpr → List DeclNode
-  init_nodes (Each name i) = named name ++ (init_nodes i ++ node.InitEach ∷ [])
-  init_nodes (Fields fs) = field_init_nodes fs ++ node.InitFields (fields_count fs) ∷ []
-  init_nodes (Cell first e) = valued (expr_nodes e) ++ node.InitCell first ∷ []
+  init_nodes (Each place name i) = named name ++ (init_nodes i ++ node.InitEach place ∷ [])
+  init_nodes (Fields place fs) = field_init_nodes fs ++ node.InitFields place (fields_count fs) ∷ []
+  init_nodes (Cell place e) = valued (expr_nodes e) ++ node.InitCell place ∷ []
 
   pub field_init_nodes : FieldInits → List DeclNode
   field_init_nodes NoFieldInits = []

@@ -5,10 +5,10 @@ use hb_stack::Stack;
 /// What is open around an initialiser.
 #[derive(Clone, Copy)]
 pub enum Frame {
-    /// `each` and its name.
-    InEach,
-    /// Fields, so many of which stand before this one.
-    InField(usize),
+    /// `each` at this place, and its name.
+    InEach(Place),
+    /// `fields` at this place, so many of which stand before this one.
+    InField(Place, usize),
 }
 
 /// What was read last.
@@ -16,16 +16,16 @@ pub enum Frame {
 pub enum Now<S> {
     /// Nothing: an initialiser is to come.
     Want,
-    /// `each`
-    EachWord,
-    /// The name behind `each`.
-    EachName,
-    /// `fields`
-    FieldsWord,
-    /// `[` or `|`, behind so many fields.
-    Field(usize),
-    /// The name of a field, behind so many fields.
-    FieldName(usize),
+    /// `each` at this place.
+    EachWord(Place),
+    /// The name behind `each`, which stands at this place.
+    EachName(Place),
+    /// `fields` at this place.
+    FieldsWord(Place),
+    /// `[` or `|`, behind so many fields. The word `fields` stands at this place.
+    Field(Place, usize),
+    /// The name of a field, behind so many fields. The word `fields` stands at this place.
+    FieldName(Place, usize),
     /// A part of an expression that begins at this place.
     Cell(Place, S),
     /// `]`

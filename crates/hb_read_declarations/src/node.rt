@@ -55,13 +55,13 @@ pub enum DeclNode {
     Depend,
     /// So many dependencies.
     Depends(usize),
-    /// An initialiser of each element, behind the name of the index.
-    InitEach,
+    /// An initialiser of each element, behind the name of the index, at the word `each`.
+    InitEach(Place),
     /// The initialiser of a field, behind its name.
     InitField,
-    /// So many fields are an initialiser.
-    InitFields(usize),
-    /// An expression is the initialiser of a cell.
+    /// So many fields are an initialiser, at the word `fields`.
+    InitFields(Place, usize),
+    /// An expression is the initialiser of a cell, at its first token.
     InitCell(Place),
     /// No initialiser.
     NoInit,

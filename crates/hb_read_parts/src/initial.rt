@@ -55,11 +55,11 @@ fn begin<E: Reads<Value = List<DeclNode>>>(
     ensures { IfOk result (λ taken. Took taken (begin E.reader state.old.frames state.old.nodes token) state.old state.new) }
 {
     if is_each(token) {
-        state.last = Now::EachWord;
+        state.last = Now::EachWord(token.place);
         return Ok(true);
     }
     if is_fields(token) {
-        state.last = Now::FieldsWord;
+        state.last = Now::FieldsWord(token.place);
         return Ok(true);
     }
     let mut cell = E::start(alloc)?;
@@ -70,69 +70,83 @@ fn begin<E: Reads<Value = List<DeclNode>>>(
     Ok(true)
 }
 
-/// Behind `each`.
-fn take_each_name<S: Drop>(state: &mut InitState<S>, token: Token) -> Result<bool, Memory>
-    ensures { IfOk result (λ taken. Took taken (mapped (λ n. at state.old.frames EachName (state.old.nodes ++ named n)) (var token)) state.old state.new) }
+/// Behind `each` at this place.
+fn take_each_name<S: Drop>(
+    state: &mut InitState<S>,
+    place: Place,
+    token: Token,
+) -> Result<bool, Memory>
+    ensures { IfOk result (λ taken. Took taken (mapped (λ n. at state.old.frames (EachName place) (state.old.nodes ++ named n)) (var token)) state.old state.new) }
 {
     let Some(name) = Var::worth(token) else {
         return Ok(false);
     };
     put_name(&mut state.nodes, name)?;
-    state.last = Now::EachName;
+    state.last = Now::EachName(place);
     Ok(true)
 }
 
-/// Behind the name of an `each`.
-fn take_each_arrow<S: Drop>(state: &mut InitState<S>, token: Token) -> Result<bool, Memory>
-    ensures { IfOk result (λ taken. Took taken (mapped (λ p. at (InEach ∷ state.old.frames) Want state.old.nodes) (this_word word.RightArrow token)) state.old state.new) }
+/// Behind the name of an `each` at this place.
+fn take_each_arrow<S: Drop>(
+    state: &mut InitState<S>,
+    place: Place,
+    token: Token,
+) -> Result<bool, Memory>
+    ensures { IfOk result (λ taken. Took taken (mapped (λ p. at (InEach place ∷ state.old.frames) Want state.old.nodes) (this_word word.RightArrow token)) state.old state.new) }
 {
     if ThisWord::<words::RightArrow>::worth(token).is_none() {
         return Ok(false);
     }
-    state.frames.push(Frame::InEach)?;
+    state.frames.push(Frame::InEach(place))?;
     state.last = Now::Want;
     Ok(true)
 }
 
-/// Behind `fields`.
-fn take_bracket<S: Drop>(state: &mut InitState<S>, token: Token) -> Result<bool, Memory>
-    ensures { IfOk result (λ taken. Took taken (mapped (λ p. at state.old.frames (Field 0) state.old.nodes) (mark 91 token)) state.old state.new) }
+/// Behind `fields` at this place.
+fn take_bracket<S: Drop>(
+    state: &mut InitState<S>,
+    place: Place,
+    token: Token,
+) -> Result<bool, Memory>
+    ensures { IfOk result (λ taken. Took taken (mapped (λ p. at state.old.frames (Field place 0) state.old.nodes) (mark 91 token)) state.old state.new) }
 {
     if Mark::<b'['>::worth(token).is_none() {
         return Ok(false);
     }
-    state.last = Now::Field(0);
+    state.last = Now::Field(place, 0);
     Ok(true)
 }
 
-/// Behind `[` or `|`.
+/// Behind `[` or `|` of the `fields` at this place.
 fn take_field_name<S: Drop>(
     state: &mut InitState<S>,
+    place: Place,
     count: usize,
     token: Token,
 ) -> Result<bool, Memory>
-    ensures { IfOk result (λ taken. Took taken (mapped (λ n. at state.old.frames (FieldName count) (state.old.nodes ++ named n)) (var token)) state.old state.new) }
+    ensures { IfOk result (λ taken. Took taken (mapped (λ n. at state.old.frames (FieldName place count) (state.old.nodes ++ named n)) (var token)) state.old state.new) }
 {
     let Some(name) = Var::worth(token) else {
         return Ok(false);
     };
     put_name(&mut state.nodes, name)?;
-    state.last = Now::FieldName(count);
+    state.last = Now::FieldName(place, count);
     Ok(true)
 }
 
-/// Behind the name of a field.
+/// Behind the name of a field of the `fields` at this place.
 fn take_field_arrow<S: Drop>(
     state: &mut InitState<S>,
+    place: Place,
     count: usize,
     token: Token,
 ) -> Result<bool, Memory>
-    ensures { IfOk result (λ taken. Took taken (mapped (λ p. at (InField count ∷ state.old.frames) Want state.old.nodes) (this_word word.LeftArrow token)) state.old state.new) }
+    ensures { IfOk result (λ taken. Took taken (mapped (λ p. at (InField place count ∷ state.old.frames) Want state.old.nodes) (this_word word.LeftArrow token)) state.old state.new) }
 {
     if ThisWord::<words::LeftArrow>::worth(token).is_none() {
         return Ok(false);
     }
-    state.frames.push(Frame::InField(count))?;
+    state.frames.push(Frame::InField(place, count))?;
     state.last = Now::Want;
     Ok(true)
 }
@@ -231,16 +245,25 @@ impl<E: Reads<Value = List<DeclNode>>> Reads for InitOf<E> {
     fn take(state: &mut InitState<E::State>, alloc: Global, token: Token) -> Result<bool, Memory> {
         match &mut state.last {
             Now::Want => begin::<E>(state, alloc, token),
-            Now::EachWord => take_each_name(state, token),
-            Now::EachName => take_each_arrow(state, token),
-            Now::FieldsWord => take_bracket(state, token),
-            Now::Field(count) => {
-                let count = *count;
-                take_field_name(state, count, token)
+            Now::EachWord(place) => {
+                let place = *place;
+                take_each_name(state, place, token)
             }
-            Now::FieldName(count) => {
-                let count = *count;
-                take_field_arrow(state, count, token)
+            Now::EachName(place) => {
+                let place = *place;
+                take_each_arrow(state, place, token)
+            }
+            Now::FieldsWord(place) => {
+                let place = *place;
+                take_bracket(state, place, token)
+            }
+            Now::Field(place, count) => {
+                let (place, count) = (*place, *count);
+                take_field_name(state, place, count, token)
+            }
+            Now::FieldName(place, count) => {
+                let (place, count) = (*place, *count);
+                take_field_arrow(state, place, count, token)
             }
             Now::Cell(_, _) => take_in_cell::<E>(state, alloc, token),
             Now::Over => go_on(state, token),

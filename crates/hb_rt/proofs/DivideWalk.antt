@@ -10,7 +10,7 @@ use Rattle.hb_asm.specs.declared.instr.BranchOp.TheVariants.{Bne}
 use Rattle.hb_asm.specs.declared.instr.Instr.{Instr}
 use Rattle.hb_asm.specs.declared.instr.Instr.TheVariants.{OpImm, Op, Branch}
 use Rattle.hb_asm.specs.Arithmetic.{alu_of, is_taken, wrapped}
-use Rattle.hb_mach.specs.State.{State, register}
+use Rattle.hb_isa.specs.State.{State, register}
 use Rattle.hb_rt.specs.Divide.{Divides, divide_length, divide_steps, divide_changes}
 use Rattle.hb_rt.specs.Routine.{IsRunning, IsPlain, StandsAtPc, Passes}
 use Rattle.hb_rt.proofs.Slots.{Slots, At5, At6, At7, At10, At11, At28, slots_of, look_kept, AreWords}

@@ -12,9 +12,11 @@ use Rattle.hb_asm.specs.InRange.{InRange}
 use Rattle.hb_asm.proofs.Coding.{decode-code}
 use Rattle.hb_base.specs.declared.step.Step.TheVariants.{Going}
 use Rattle.hb_asm.specs.Arithmetic.{alu_of, is_taken, unsigned, wrapped}
-use Rattle.hb_mach.specs.State.{State, code_base, register, with_register}
-use Rattle.hb_mach.specs.Table.{table, running, fetched, execute, computed, branching, goes_on, goes_to, word_at_pc, instruction_at_pc, from_here}
-use Rattle.hb_rt.specs.Routine.{IsRunning, StandsAtPc, StandsIn, Leads, Stays, Steps, Leaves}
+use Rattle.hb_isa.specs.State.{State, code_base, register, with_register}
+use Rattle.hb_isa.specs.Table.{table, running, fetched, execute, computed, branching, goes_on, goes_to, word_at_pc, instruction_at_pc, from_here}
+use Rattle.hb_rt.specs.Routine.{IsRunning, StandsAtPc, StandsIn, Leads, Leaves}
+use Rattle.hb_isa.specs.Run.{turn, turn_of}
+use Rattle.hb_runs.proofs.Walks as walks
 use Rattle.hb_rt.proofs.Slots.{Slots, look, put, IsSlot, IsSlot-small, look-put, slots_of, look_kept, AreWords, look_word}
 
 -- ---- registers
@@ -47,10 +49,15 @@ pub Leads-join :
     → Leads routine from m s t
     → Leads routine from n t u
     → Leads routine from (m + n) s u
-Leads-join {routine} {from} {m} {n} {s} {t} {u} (Stays r) q =
-    subst (λ k. Leads routine from k r u) (sym (zero-add n)) q
-Leads-join {routine} {from} {m} {n} {s} {t} {u} (Steps j r v w stands e p) q =
-    subst (λ k. Leads routine from k r u) (omega arith) (Steps (j + n) r v u stands e (Leads-join p q))
+Leads-join {routine} {from} {m} {n} {s} {t} {u} p q = walks.together turn (StandsIn routine from) s t u m n [] [] p q
+
+-- one step, and none
+Leads-one : (routine : List Instr) (from : ℕ) (s t : State) → StandsIn routine from s → table s ≡ (t, Going) → Leads routine from 1 s t
+unfolding turn turn_of
+Leads-one routine from s t stands e = walks.goes turn (StandsIn routine from) s t (ap turn_of e) stands
+
+Leads-none : (routine : List Instr) (from : ℕ) (s : State) → Leads routine from 0 s s
+Leads-none routine from s = walks.stays turn (StandsIn routine from) s
 
 -- ---- where a walk stands
 
@@ -213,7 +220,7 @@ computing routine start k f t rd word stands at within slot here e =
     let u : State = goes_on (with_register rd word t) in
     record {
       end = u;
-      leads = Steps 0 t u u here e (Stays u);
+      leads = Leads-one routine start.pc t u here e;
       at = at_computed routine start k f t rd word stands at within slot;
     }
 
@@ -261,7 +268,7 @@ pub walk :
     → Segment routine k is
     → Walks routine start (length is) t (k + length is) (effects (register start) is f)
 walk [] routine start k f t stands at seg =
-    record { end = t; leads = Stays t; at = subst (λ n. At start n f t) (sym (add-zero k)) at }
+    record { end = t; leads = Leads-none routine start.pc t; at = subst (λ n. At start n f t) (sym (add-zero k)) at }
 walk (i ∷ is) routine start k f t stands at seg =
     let g : Slots = effect (register start) i f in
     let joined =
@@ -318,7 +325,7 @@ branch routine start k j f t op rs1 rs2 imm true stands at e fits test target =
     ∙ cond-true (from_here t imm % 4 == 0) _ _ (eq-eqb (from_here t imm % 4) 0 whole)))) in
     record {
       end = u;
-      leads = Steps 0 t u u (stands_in routine start k f t (Branch op rs1 rs2 imm) stands at e fits) done (Stays u);
+      leads = Leads-one routine start.pc t u (stands_in routine start k f t (Branch op rs1 rs2 imm) stands at e fits) done;
       at = at_elsewhere start k j f t (from_here t imm) at target;
     }
 branch routine start k j f t op rs1 rs2 imm false stands at e fits test target =
@@ -331,7 +338,7 @@ branch routine start k j f t op rs1 rs2 imm false stands at e fits test target =
     ∙ ap (λ x. branching x (from_here t imm) t) test)) in
     record {
       end = u;
-      leads = Steps 0 t u u (stands_in routine start k f t (Branch op rs1 rs2 imm) stands at e fits) done (Stays u);
+      leads = Leads-one routine start.pc t u (stands_in routine start k f t (Branch op rs1 rs2 imm) stands at e fits) done;
       at = at_elsewhere start k (suc k) f t (wrapped (t.pc + 4)) at (omega (arith, at.pc, stands.low));
     }
 

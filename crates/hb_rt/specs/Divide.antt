@@ -1,7 +1,7 @@
 -- What the routine for division does.
 use Rattle.std.specs.Prelude.{◌≡◌, ◌≢◌, ℕ, ◌/◌, ◌%◌, List, [], ◌∷◌}
 use Rattle.hb_asm.specs.declared.instr.Instr.{Instr}
-use Rattle.hb_mach.specs.State.{State, register}
+use Rattle.hb_isa.specs.State.{State, register}
 use Rattle.hb_rt.specs.Routine.{IsPlain, IsRunning, StandsAtPc, Passes}
 
 -- the most instructions that it has

@@ -1,12 +1,13 @@
 -- What holds of a routine wherever it stands in the code: the steps that it takes, and what it leaves as it was.
-use Rattle.std.specs.Prelude.{◌≡◌, ℕ, suc, ◌+◌, ◌*◌, ◌^◌, ◌<◌, ◌≤◌, List, ◌++◌, map, length, slice_get, All, Contains, Some, None}
+use Rattle.std.specs.Prelude.{◌≡◌, ℕ, ◌+◌, ◌*◌, ◌^◌, ◌<◌, ◌≤◌, List, [], ◌++◌, map, length, slice_get, All, Contains, Some, None}
 use Rattle.hb_asm.specs.declared.instr.Instr.{Instr}
 use Rattle.hb_asm.specs.declared.instr.Instr.TheVariants.{Branch, OpImm, Op}
 use Rattle.hb_asm.specs.Coding.{code_of}
 use Rattle.hb_asm.specs.InRange.{InRange}
-use Rattle.hb_base.specs.declared.step.Step.TheVariants.{Going}
-use Rattle.hb_mach.specs.State.{State, code_base, register}
-use Rattle.hb_mach.specs.Table.{table, instruction_at_pc}
+use Rattle.hb_isa.specs.State.{State, code_base, register}
+use Rattle.hb_isa.specs.Run.{turn}
+use Rattle.hb_isa.specs.Table.{instruction_at_pc}
+use Rattle.hb_runs.specs.Simulation.{Walk}
 
 -- the run has not ended, and its 32 registers hold words
 pub record IsRunning (s : State) : Type 0 where
@@ -31,14 +32,8 @@ pub record StandsIn (routine : List Instr) (from : ℕ) (s : State) : Type 0 whe
   pub fetched : instruction_at_pc s ≡ Some (Some instr)
 
 -- so many steps lead from one state to another. Each is done by an instruction of the routine, and shows nothing
-pub data Leads (routine : List Instr) (from : ℕ) : ℕ → State → State → Type 0 where
-  Stays : (s : State) → Leads routine from 0 s s
-  Steps :
-      (n : ℕ) (s t u : State)
-      → StandsIn routine from s
-      → table s ≡ (t, Going)
-      → Leads routine from n t u
-      → Leads routine from (suc n) s u
+abbrev pub Leads : List Instr → ℕ → ℕ → State → State → Type 0
+Leads routine from steps s t = Walk turn (StandsIn routine from) steps [] s t
 
 -- pc is right behind the routine, and nothing has changed but these registers and the count of steps
 pub record Leaves (routine : List Instr) (changed : List ℕ) (s t : State) : Type 0 where

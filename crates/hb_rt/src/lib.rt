@@ -4,8 +4,6 @@
 mod divide;
 mod mnemonics;
 mod multiply;
-#[cfg(test)]
-mod tests;
 
 pub use divide::divide_code;
 pub use multiply::multiply_code;

@@ -7,3 +7,4 @@ pub mod Sound
 pub mod Complete
 pub mod Answering
 pub mod MeaningLaws
+pub mod WrongOnce

@@ -2,12 +2,13 @@
 use Rattle.std.proofs.Common.{◌≡◌, ◌≢◌, ℕ, zero, suc, ◌+◌, ◌-◌, ◌*◌, ◌%◌, ◌^◌, ◌<◌, ◌≤◌, ◌⊎◌, inl, inr, true, false, nat_le, List, length, slice_index, slice_set, replicate, Some, None, refl, ap, sym, ◌∙◌, subst, arith, length-set, get_or-set_same, get_or-set_other}
 use Rattle.std.proofs.lemmas.Bool.{lt-leb, le-leb, and_right, cases_lt}
 use Rattle.std.proofs.lemmas.List.{length-replicate, get_or-replicate, get_or_past}
-use Rattle.hb_mach.specs.Memory.{Region, Memory, zeroed, end_of, is_within, load, store, put_in, number_at}
-use Rattle.hb_mach.proofs.MemoryLaws.{load-store_same, load-store_other, length-put_number}
+use Rattle.hb_isa.specs.Memory.{Region, Memory, zeroed, end_of, is_within, load, store, put_in, number_at}
+use Rattle.hb_isa.proofs.MemoryLaws.{load-store_same, load-store_other, length-put_number}
 use Rattle.hb_select.specs.Code.{address_of}
 
 -- memory has no areas but a stack of so many bytes, whose top is a frame with these words
 pub record IsFrame (stack : ℕ) (words : List ℕ) (memory : Memory) : Type 0 where
+  pub low : 536870912 ≤ memory.areas.base
   pub areas : end_of memory.areas ≤ 536870912
   pub base : memory.stack.base ≡ 1073741824 - (stack + 1024)
   pub size : length memory.stack.bytes ≡ stack + 1024
@@ -78,6 +79,7 @@ sets_word stack words memory k value is h small =
       new = new;
       stores = e;
       is = record {
+        low = is.low;
         areas = is.areas;
         base = is.base;
         size = length-put_number memory.stack.bytes (address_of k - memory.stack.base) 4 value ∙ is.size;
@@ -141,6 +143,7 @@ unfolding zeroed
 begins stack words most room =
     let count : length (replicate {A = ℕ} words 0) ≡ words = length-replicate {A = ℕ} words 0 in
     record {
+      low = omega arith;
       areas = omega arith;
       base = refl;
       size = length-replicate (stack + 1024) 0;

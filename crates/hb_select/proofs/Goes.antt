@@ -1,5 +1,6 @@
 -- How the machine goes from one state to another: walks of the system that it is.
 use Rattle.std.proofs.Common.{◌≡◌, ℕ, ◌+◌, ◌≤◌, List, [], ◌∷◌, ◌++◌, ap, arith}
+use Rattle.hb_base.specs.declared.port.Port.{Port}
 use Rattle.hb_base.specs.declared.step.Step.{Step}
 use Rattle.hb_base.specs.declared.step.Step.TheVariants.{Going, Read, Wrote, Ended}
 use Rattle.hb_base.specs.declared.step.Stop.{Stop}
@@ -7,17 +8,19 @@ use Rattle.hb_runs.specs.System.{End, System, weighed, each_one}
 use Rattle.hb_runs.specs.Simulation.{Walk}
 use Rattle.hb_runs.proofs.Walks as walks
 use Rattle.hb_runs.proofs.Counting.{counted-most}
-use Rattle.hb_mach.specs.Run.{events, turn_of, turn}
-use Rattle.hb_mach.specs.State.{State}
-use Rattle.hb_mach.specs.Table.{table}
+use Rattle.hb_isa.specs.Run.{events, turn_of, turn}
+use Rattle.hb_isa.specs.State.{State}
+use Rattle.hb_isa.specs.Table.{table}
+use Rattle.hb_isa.specs.Touches.{IsAllowed}
+use Rattle.hb_select.specs.Law.{NoCell}
 
--- what is asked of each state in which an instruction is done
-abbrev pub IsFine : State → Type 0
-IsFine s = Unit {0}
+-- what is asked of each state in which an instruction is done: its access is allowed
+abbrev pub IsFine : List Port → ℕ → State → Type 0
+IsFine ports stack s = IsAllowed NoCell ports stack s
 
 -- so many instructions lead there, and show these events
-abbrev pub Goes : State → ℕ → List Step → State → Type 0
-Goes from count seen to = Walk turn IsFine count seen from to
+abbrev pub Goes : List Port → ℕ → State → ℕ → List Step → State → Type 0
+Goes ports stack from count seen to = Walk turn (IsFine ports stack) count seen from to
 
 -- a step after which the run goes on
 abbrev pub GoesOn : Step → Type 0
@@ -26,19 +29,19 @@ GoesOn (Read port value) = Unit {0}
 GoesOn (Wrote port value) = Unit {0}
 GoesOn (Ended stop) = ⊥
 
-pub one_step : (s t : State) (answer : Step) → table s ≡ (t, answer) → GoesOn answer → IsFine s → Goes s 1 (events (answer ∷ [])) t
+pub one_step : (ports : List Port) (stack : ℕ) (s t : State) (answer : Step) → table s ≡ (t, answer) → GoesOn answer → IsFine ports stack s → Goes ports stack s 1 (events (answer ∷ [])) t
 unfolding turn turn_of
-one_step s t Going e on fine = walks.goes turn IsFine s t (ap turn_of e) fine
-one_step s t (Read port value) e on fine = walks.shows turn IsFine s t (Read port value) (ap turn_of e) fine
-one_step s t (Wrote port value) e on fine = walks.shows turn IsFine s t (Wrote port value) (ap turn_of e) fine
-one_step s t (Ended stop) e on fine = absurd on
+one_step ports stack s t Going e on fine = walks.goes turn (IsFine ports stack) s t (ap turn_of e) fine
+one_step ports stack s t (Read port value) e on fine = walks.shows turn (IsFine ports stack) s t (Read port value) (ap turn_of e) fine
+one_step ports stack s t (Wrote port value) e on fine = walks.shows turn (IsFine ports stack) s t (Wrote port value) (ap turn_of e) fine
+one_step ports stack s t (Ended stop) e on fine = absurd on
 
-pub nowhere : (s : State) → Goes s 0 [] s
-nowhere s = walks.stays turn IsFine s
+pub nowhere : (ports : List Port) (stack : ℕ) (s : State) → Goes ports stack s 0 [] s
+nowhere ports stack s = walks.stays turn (IsFine ports stack) s
 
 -- one way after another
-pub together : (s t u : State) (m n : ℕ) (before later : List Step) → Goes s m before t → Goes t n later u → Goes s (m + n) (before ++ later) u
-together s t u m n before later g h = walks.together turn IsFine s t u m n before later g h
+pub together : (ports : List Port) (stack : ℕ) (s t u : State) (m n : ℕ) (before later : List Step) → Goes ports stack s m before t → Goes ports stack t n later u → Goes ports stack s (m + n) (before ++ later) u
+together ports stack s t u m n before later g h = walks.together turn (IsFine ports stack) s t u m n before later g h
 
 -- a step that ends the run
 pub ends_now : (s t : State) (stop : Stop) → table s ≡ (t, Ended stop) → turn s ≡ End stop

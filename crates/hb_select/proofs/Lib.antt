@@ -1,6 +1,7 @@
 pub mod Numbers
 pub mod Goes
 pub mod Frames
+pub mod Accesses
 pub mod Places
 pub mod Loads
 pub mod Meetings

@@ -15,11 +15,12 @@ use Rattle.hb_flat.specs.declared.form.Operand.TheVariants.{Word, Number}
 use Rattle.hb_flat.specs.Meaning.{value_of}
 use Rattle.hb_flat.specs.Rules.{IsOperand}
 use Rattle.hb_asm.specs.Arithmetic.{wrapped, unsigned, alu_of, load_size, extended, store_size}
-use Rattle.hb_mach.specs.Memory.{Memory, load, store}
-use Rattle.hb_mach.specs.State.{State}
-use Rattle.hb_mach.specs.Table.{table, execute, computed, loading, loading_memory, storing, storing_memory, goes_on, upper}
+use Rattle.hb_isa.specs.Memory.{Memory, load, store}
+use Rattle.hb_isa.specs.State.{State}
+use Rattle.hb_isa.specs.Table.{table, execute, computed, loading, loading_memory, storing, storing_memory, goes_on, upper}
 use Rattle.hb_select.specs.Code.{upper_part, lower_part, address_of, operand_code, put_code}
 use Rattle.hb_select.proofs.Numbers.{upper-fits, lower-fits, parts-whole, address-fits}
+use Rattle.hb_select.proofs.Accesses.{fine_step}
 use Rattle.hb_select.proofs.Goes.{Goes, one_step, together}
 use Rattle.hb_select.proofs.Frames.{sets_word, Stored}
 use Rattle.hb_select.proofs.Places.{IsAt, Puts, does, on, changed, computes, put_again}
@@ -89,7 +90,7 @@ loads ports stack register (Word k) left words lines s is fits r live =
 
 pub record Keeps (ports : List Port) (stack : ℕ) (left : List Instr) (words : List ℕ) (lines : List ScriptLine) (count : ℕ) (seen : List Step) (s : State) : Type 0 where
   pub next : State
-  pub goes : Goes s count seen next
+  pub goes : Goes ports stack s count seen next
   pub is : IsAt ports stack left words lines next
 
 store_word : (address value : ℕ) (new : Memory) (s : State) → address % 4 ≡ 0 → store s.memory address 4 value ≡ Some new → storing Sw address value s ≡ (goes_on (record s { memory = new }), Going)
@@ -118,6 +119,6 @@ sets ports stack k value left words lines s is h small v =
     ∙ ap (λ (ls : List ScriptLine). (goes_on (changed now.registers ls stored.new now), Going)) first.is.waiting in
     record {
       next = next;
-      goes = together s now next 1 1 [] [] first.goes (one_step now next Going e tt tt);
+      goes = together ports stack s now next 1 1 [] [] first.goes (one_step ports stack now next Going e tt (fine_step ports stack words now next Going first.is.frame first.is.with_ports e tt));
       is = on ports stack instr left words (slice_set words k value) lines lines now.registers stored.new now first.is first.is.wide stored.is;
     }

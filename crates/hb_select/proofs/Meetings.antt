@@ -16,23 +16,25 @@ use Rattle.hb_asm.specs.InRange.{IsImmediate}
 use Rattle.hb_base.specs.declared.port.Dir.TheVariants.{In}
 use Rattle.hb_base.specs.declared.port.Port.{Port}
 use Rattle.hb_base.specs.declared.script.ScriptLine.{ScriptLine}
-use Rattle.hb_base.specs.declared.step.Step.TheVariants.{Read, Wrote}
+use Rattle.hb_base.specs.declared.step.Step.TheVariants.{Read, Wrote, Ended}
 use Rattle.hb_base.specs.declared.step.Stop.{Stop}
 use Rattle.hb_base.specs.declared.step.Stop.TheVariants.{InputEnd, Done}
 use Rattle.hb_base.specs.Ports.{IsWidth, IsPort, ArePorts}
 use Rattle.hb_flat.specs.Meaning.{is_at, read_at, written_at}
 use Rattle.hb_asm.specs.Arithmetic.{wrapped, unsigned, alu_of, load_size, extended, store_size, low_part}
 use Rattle.hb_base.specs.Inputs.{first_value, without_first, AreInputs}
-use Rattle.hb_mach.specs.Memory.{load, store}
-use Rattle.hb_mach.specs.State.{State}
-use Rattle.hb_mach.specs.Table.{table, execute, computed, loading, loading_memory, loading_port, reading, storing, storing_memory, storing_port, ending, called, counted, goes_on, is_read_at, is_written_at}
-use Rattle.hb_mach.proofs.PortLaws.{first_value-event}
+use Rattle.hb_isa.specs.Memory.{load, store}
+use Rattle.hb_isa.specs.State.{State}
+use Rattle.hb_isa.specs.Table.{table, execute, computed, loading, loading_memory, loading_port, reading, storing, storing_memory, storing_port, ending, called, counted, goes_on, is_read_at, is_written_at}
+use Rattle.hb_isa.proofs.InputLaws.{first_value-fits}
 use Rattle.hb_select.specs.Code.{load_of, store_of}
 use Rattle.hb_select.proofs.Numbers.{plus_nothing}
 use Rattle.hb_runs.specs.System.{End as TurnEnd}
-use Rattle.hb_mach.specs.Run.{turn}
+use Rattle.hb_isa.specs.Run.{turn}
+use Rattle.hb_isa.proofs.TouchLaws.{IsLetThrough}
+use Rattle.hb_select.proofs.Accesses.{fine_step}
 use Rattle.hb_select.proofs.Goes.{Goes, IsFine, one_step, together, nowhere, ends_now}
-use Rattle.hb_select.proofs.Frames.{no_load, no_store}
+use Rattle.hb_select.proofs.Frames.{IsFrame, no_load, no_store}
 use Rattle.hb_select.proofs.Places.{IsAt, Puts, does, on, changed, put_one, computes}
 use Rattle.hb_select.proofs.Loads.{Keeps}
 
@@ -82,7 +84,7 @@ pub line-fits : (test : Port → Bool) (ports : List Port) (lines : List ScriptL
 line-fits test ports lines place value rules inputs e first =
     let found = position-Some test ports place a_port e in
     let there : slice_get ports place ≡ Some (get_or ports place a_port) = slice_get-get_or ports place a_port found.0 in
-    event-fits (slice_get ports place) (get_or ports place a_port) value there (All-get_or IsPort ports place a_port found.0 rules.each) (first_value-event ports lines place value inputs first)
+    event-fits (slice_get ports place) (get_or ports place a_port) value there (All-get_or IsPort ports place a_port found.0 rules.each) (first_value-fits ports lines place value inputs first)
 
 -- ---- loads
 
@@ -162,25 +164,27 @@ takes ports stack left words lines address width place value s m found first =
 -- ---- an end
 
 -- so many instructions lead to one that ends the run
-pub record Halts (stop : Stop) (count : ℕ) (s : State) : Type 0 where
+pub record Halts (ports : List Port) (stack : ℕ) (stop : Stop) (count : ℕ) (s : State) : Type 0 where
   pub last : State
-  pub goes : Goes s count [] last
-  pub fine : IsFine last
+  pub goes : Goes ports stack s count [] last
+  pub fine : IsFine ports stack last
   pub ends : turn last ≡ TurnEnd stop
 
-halts_now : (stop : Stop) (s : State) → table s ≡ ending stop s → Halts stop 0 s
-halts_now stop s e = record {
-  last = s;
-  goes = nowhere s;
-  fine = tt;
-  ends = ends_now s (record s { ended = Some stop; done = counted s.done }) stop e;
-}
+halts_now : (ports : List Port) (stack : ℕ) (words : List ℕ) (stop : Stop) (s : State) → IsFrame stack words s.memory → s.ports ≡ ports → IsLetThrough (Ended stop) → table s ≡ ending stop s → Halts ports stack stop 0 s
+halts_now ports stack words stop s frame same let_through e =
+    let next : State = record s { ended = Some stop; done = counted s.done } in
+    record {
+      last = s;
+      goes = nowhere ports stack s;
+      fine = fine_step ports stack words s next (Ended stop) frame same e let_through;
+      ends = ends_now s next stop e;
+    }
 
 pub lacks : (ports : List Port) (stack : ℕ) (left : List Instr) (words : List ℕ) (lines : List ScriptLine) (address width place : ℕ) (s : State)
     → Meets ports stack (Load (load_of width) 5 5 (pos 0)) left words lines address width place s → read_at ports address width ≡ Some place → first_value place lines ≡ None
-    → Halts (InputEnd place) 0 s
+    → Halts ports stack (InputEnd place) 0 s
 lacks ports stack left words lines address width place s m found first =
-    halts_now (InputEnd place) s
+    halts_now ports stack words (InputEnd place) s m.is.frame m.is.with_ports tt
     (load_reads ports stack left words lines address width place s m found ∙ ap (λ (v : Option ℕ). reading v place (load_of width) 5 s) first ∙ no_line (load_of width) place s)
 
 -- ---- stores
@@ -231,7 +235,7 @@ gives ports stack left words lines address width place value s m found v small =
     ∙ ap (λ (ls : List ScriptLine). (goes_on (changed s.registers ls s.memory s), Wrote place (value % 2 ^ (8 * width)))) m.is.waiting in
     record {
       next = next;
-      goes = one_step s next (Wrote place (value % 2 ^ (8 * width))) e tt tt;
+      goes = one_step ports stack s next (Wrote place (value % 2 ^ (8 * width))) e tt (fine_step ports stack words s next (Wrote place (value % 2 ^ (8 * width))) m.is.frame m.is.with_ports e tt);
       is = on ports stack instr left words words lines lines s.registers s.memory s m.is m.is.wide m.is.frame;
     }
 
@@ -257,15 +261,15 @@ ecall_does : (s : State) → slice_index s.registers 17 ≡ 0 → execute Ecall 
 unfolding execute
 ecall_does s call = ap (λ number. ending (called number (slice_index s.registers 10)) s) call
 
-pub is_done : (ports : List Port) (stack : ℕ) (words : List ℕ) (lines : List ScriptLine) (s : State) → IsAt ports stack (OpImm Add 17 0 (pos 0) ∷ Ecall ∷ []) words lines s → Halts Done 1 s
+pub is_done : (ports : List Port) (stack : ℕ) (words : List ℕ) (lines : List ScriptLine) (s : State) → IsAt ports stack (OpImm Add 17 0 (pos 0) ∷ Ecall ∷ []) words lines s → Halts ports stack Done 1 s
 is_done ports stack words lines s is =
     let first : Puts ports stack (Ecall ∷ []) words lines 17 0 1 [] s =
     computes ports stack (OpImm Add 17 0 (pos 0)) (Ecall ∷ []) words lines 17 0 s is (omega arith, omega arith, nothing_fits) (omega arith) refl (call_does s) in
     let now = first.next in
-    let last : Halts Done 0 now = halts_now Done now (does ports stack Ecall [] words lines now first.is tt ∙ ecall_does now first.puts) in
+    let last : Halts ports stack Done 0 now = halts_now ports stack words Done now first.is.frame first.is.with_ports tt (does ports stack Ecall [] words lines now first.is tt ∙ ecall_does now first.puts) in
     record {
       last = last.last;
-      goes = together s now last.last 1 0 [] [] first.goes last.goes;
+      goes = together ports stack s now last.last 1 0 [] [] first.goes last.goes;
       fine = last.fine;
       ends = last.ends;
     }

@@ -11,7 +11,7 @@ use Rattle.hb_asm.specs.declared.instr.AluOp.{AluOp}
 use Rattle.hb_asm.specs.declared.instr.AluOp.TheVariants.{Add, Sub, Sll, Slt, Sltu, Xor, Srl, Sra, Or, And}
 use Rattle.hb_asm.specs.InRange.{IsImmediate}
 use Rattle.hb_asm.specs.Arithmetic.{wrapped, unsigned, signed, alu_of}
-use Rattle.hb_mach.specs.Table.{upper}
+use Rattle.hb_isa.specs.Table.{upper}
 use Rattle.hb_select.specs.Code.{upper_part, lower_part, address_of}
 
 -- ---- a number in two parts

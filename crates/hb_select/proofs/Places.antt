@@ -10,12 +10,13 @@ use Rattle.hb_base.specs.declared.script.ScriptLine.{ScriptLine}
 use Rattle.hb_base.specs.declared.step.Step.{Step}
 use Rattle.hb_base.specs.declared.step.Step.TheVariants.{Going}
 use Rattle.hb_asm.specs.Arithmetic.{wrapped}
-use Rattle.hb_mach.specs.Memory.{Memory}
-use Rattle.hb_mach.specs.Run.{events}
-use Rattle.hb_mach.specs.State.{State}
-use Rattle.hb_mach.specs.Table.{table, running, fetched, execute, computed, goes_on, word_at_pc}
+use Rattle.hb_isa.specs.Memory.{Memory}
+use Rattle.hb_isa.specs.Run.{events}
+use Rattle.hb_isa.specs.State.{State}
+use Rattle.hb_isa.specs.Table.{table, running, fetched, execute, computed, goes_on, word_at_pc}
 use Rattle.hb_select.proofs.Goes.{Goes, GoesOn, one_step, together}
 use Rattle.hb_select.proofs.Frames.{IsFrame}
+use Rattle.hb_select.proofs.Accesses.{fine_step, goes_through}
 
 -- ---- lists from a place on
 
@@ -106,7 +107,7 @@ on ports stack instr left words words' lines lines' registers memory s is wide f
 
 pub record Puts (ports : List Port) (stack : ℕ) (left : List Instr) (words : List ℕ) (lines : List ScriptLine) (register value count : ℕ) (seen : List Step) (s : State) : Type 0 where
   pub next : State
-  pub goes : Goes s count seen next
+  pub goes : Goes ports stack s count seen next
   pub is : IsAt ports stack left words lines next
   pub puts : slice_index next.registers register ≡ value
   pub others : (q : ℕ) → q ≢ register → slice_index next.registers q ≡ slice_index s.registers q
@@ -117,7 +118,9 @@ pub put_one : (ports : List Port) (stack : ℕ) (instr : Instr) (left : List Ins
     → Puts ports stack left words lines' register value 1 (events (answer ∷ [])) s
 put_one ports stack instr left words lines lines' register value answer s is r e on_goes = record {
   next = goes_on (changed (slice_set s.registers register value) lines' s.memory s);
-  goes = one_step s (goes_on (changed (slice_set s.registers register value) lines' s.memory s)) answer e on_goes tt;
+  goes =
+      one_step ports stack s (goes_on (changed (slice_set s.registers register value) lines' s.memory s)) answer e on_goes
+      (fine_step ports stack words s (goes_on (changed (slice_set s.registers register value) lines' s.memory s)) answer is.frame is.with_ports e (goes_through answer on_goes));
   is = on ports stack instr left words words lines lines' (slice_set s.registers register value) s.memory s is (length-set s.registers register value ∙ is.wide) is.frame;
   puts = get_or-set_same s.registers register value 0 (omega (arith, is.wide));
   others = λ q h. get_or-set_other s.registers register q value 0 h;
@@ -142,7 +145,7 @@ pub put_again : (ports : List Port) (stack : ℕ) (left left' : List Instr) (wor
     → Puts ports stack left' words lines register value 2 [] s
 put_again ports stack left left' words lines register v value s first second = record {
   next = second.next;
-  goes = together s first.next second.next 1 1 [] [] first.goes second.goes;
+  goes = together ports stack s first.next second.next 1 1 [] [] first.goes second.goes;
   is = second.is;
   puts = second.puts;
   others = λ q h. second.others q h ∙ first.others q h;

@@ -7,25 +7,23 @@ use Rattle.hb_asm.specs.declared.instr.Instr.{Instr}
 use Rattle.hb_asm.specs.declared.part.Asm.{Asm}
 use Rattle.hb_asm.specs.declared.part.AsmPart.TheVariants.{Instr as part}
 use Rattle.hb_asm.specs.Coding.{code_of}
+use Rattle.hb_base.specs.Ports.{ArePorts}
+use Rattle.hb_base.specs.declared.port.Port.{Port}
 use Rattle.hb_base.specs.declared.script.ScriptLine.{ScriptLine}
-use Rattle.hb_image.specs.declared.image.Image.{Image}
-use Rattle.hb_image.specs.Rules.{IsImage}
 use Rattle.hb_flat.specs.declared.form.FlatBlock.{FlatBlock}
 use Rattle.hb_flat.specs.declared.form.Flat.{Flat}
 use Rattle.hb_flat.specs.Meaning.{entered, runs, shown_from}
-use Rattle.hb_flat.specs.Rules.{IsBlock, IsStep}
+use Rattle.hb_flat.specs.Rules.{IsBlock, IsStep, IsFlat}
 use Rattle.hb_base.specs.Inputs.{AreInputs}
-use Rattle.hb_mach.specs.Memory.{zeroed}
-use Rattle.hb_mach.specs.Run.{mach}
-use Rattle.hb_mach.specs.State.{start}
+use Rattle.hb_isa.specs.State.{started}
 use Rattle.hb_runs.specs.Law.{Law}
 use Rattle.hb_select.specs.Code.{code_from, block_code, program, parts_of, words_of}
 use Rattle.hb_select.specs.Weights.{weights, weighed_from}
-use Rattle.hb_select.specs.Law.{course_of_flat, course_of_image, KeepsLaw}
-use Rattle.hb_select.proofs.Frames.{IsFrame, begins}
+use Rattle.hb_select.specs.Law.{course_of_flat, course_of_code, most_words, KeepsLaw, AccessLaw}
+use Rattle.hb_select.proofs.Frames.{begins}
 use Rattle.hb_select.proofs.Places.{IsAt}
 use Rattle.hb_select.proofs.Turns.{Follows}
-use Rattle.hb_select.proofs.Simulation.{keeps_law}
+use Rattle.hb_select.proofs.Simulation.{keeps_law, keeps_accesses}
 
 -- ---- the words of instructions
 
@@ -42,50 +40,68 @@ first_block (block ∷ other ∷ rest) entry one at = absurd (omega arith)
 
 -- ---- the start
 
-starts_frame : (image : Image) (words : ℕ) → IsImage image → image.areas ≡ 0 → 4 * words ≤ image.stack → IsFrame image.stack (replicate words 0) (zeroed image.areas image.stack)
-starts_frame image words rules areas room = subst (λ n. IsFrame image.stack (replicate words 0) (zeroed n image.stack)) (sym areas) (begins image.stack words rules.stack_most room)
-
-starts : (image : Image) (lines : List ScriptLine) (left : List Instr) (words : ℕ) → IsImage image → image.areas ≡ 0 → image.code ≡ map code_of left → 4 * words ≤ image.stack
-    → IsAt image.ports image.stack left (replicate words 0) lines (start image lines)
-unfolding start
-starts image lines left words rules areas code room = record {
+starts : (code : List ℕ) (ports : List Port) (stack : ℕ) (lines : List ScriptLine) (left : List Instr) (words : ℕ) → stack ≤ 16777216 → length left ≤ most_words → code ≡ map code_of left → 4 * words ≤ stack
+    → IsAt ports stack left (replicate words 0) lines (started code ports 0 stack lines)
+starts code ports stack lines left words most short is room = record {
   place = 0;
   here = refl;
-  low = omega (arith, rules.code_most, ap length code, length-map left code_of);
-  code = code;
+  low = omega (arith, short);
+  code = is;
   with_ports = refl;
   going = refl;
   wide = refl;
   waiting = refl;
-  frame = starts_frame image words rules areas room;
+  frame = begins stack words most room;
 }
 
-starts_block : (image : Image) (lines : List ScriptLine) (block : FlatBlock) → IsImage image → image.areas ≡ 0 → image.code ≡ map code_of (block_code (Some block)) → IsBlock image.ports image.stack block → AreInputs image.ports lines
-    → Follows image.ports image.stack (entered block lines) (start image lines)
-starts_block image lines block rules areas code is inputs = record {
-  is = starts image lines (code_from block.steps block.tail) block.words rules areas code is.frame;
-  rules = rules.ports;
-  steps = subst (λ n. All (IsStep image.ports n) block.steps) (sym (length-replicate block.words 0)) is.steps;
+starts_block : (code : List ℕ) (ports : List Port) (stack : ℕ) (lines : List ScriptLine) (block : FlatBlock) → ArePorts ports → stack ≤ 16777216 → length (code_from block.steps block.tail) ≤ most_words
+    → code ≡ map code_of (code_from block.steps block.tail) → IsBlock ports stack block → AreInputs ports lines
+    → Follows ports stack (entered block lines) (started code ports 0 stack lines)
+starts_block code ports stack lines block rules most short same is inputs = record {
+  is = starts code ports stack lines (code_from block.steps block.tail) block.words most short same is.frame;
+  rules = rules;
+  steps = subst (λ n. All (IsStep ports n) block.steps) (sym (length-replicate block.words 0)) is.steps;
   inputs = inputs;
 }
 
 -- ---- the law
 
-block_law : (flat : Flat) (image : Image) (lines : List ScriptLine) (block : FlatBlock) → slice_get flat.blocks flat.entry ≡ Some block → Follows image.ports image.stack (entered block lines) (start image lines)
-    → Law (course_of_flat flat image.ports lines) (course_of_image image lines)
-unfolding runs shown_from weights weighed_from mach
-block_law flat image lines block e f =
-    subst (λ (o : Option FlatBlock). Law (record { shows = shown_from o image.ports lines; costs = weighed_from o image.ports lines }) (course_of_image image lines)) (sym e)
-    (keeps_law image.ports image.stack (entered block lines) (start image lines) f)
+block_law : (flat : Flat) (code : List ℕ) (ports : List Port) (lines : List ScriptLine) (block : FlatBlock) → slice_get flat.blocks flat.entry ≡ Some block → Follows ports flat.stack (entered block lines) (started code ports 0 flat.stack lines)
+    → Law (course_of_flat flat ports lines) (course_of_code code ports flat.stack lines)
+unfolding runs shown_from weights weighed_from
+block_law flat code ports lines block e f =
+    subst (λ (o : Option FlatBlock). Law (record { shows = shown_from o ports lines; costs = weighed_from o ports lines }) (course_of_code code ports flat.stack lines)) (sym e)
+    (keeps_law ports flat.stack (entered block lines) (started code ports 0 flat.stack lines) f)
 
-pub keeps : (flat : Flat) (asm : Asm) → asm.parts ≡ parts_of flat → KeepsLaw flat asm
-keeps flat asm parts image lines is inputs =
-    let found = first_block flat.blocks flat.entry is.fits.single is.fits.entry in
+-- the block with which the program begins, and the machine about to do it
+record Begun (flat : Flat) (asm : Asm) (ports : List Port) (lines : List ScriptLine) : Type 0 where
+  block : FlatBlock
+  stands : slice_get flat.blocks flat.entry ≡ Some block
+  follows : Follows ports flat.stack (entered block lines) (started (words_of asm.parts) ports 0 flat.stack lines)
+
+begun : (flat : Flat) (asm : Asm) → asm.parts ≡ parts_of flat → (ports : List Port) (lines : List ScriptLine) → IsFlat flat ports → length asm.parts ≤ most_words → AreInputs ports lines → Begun flat asm ports lines
+begun flat asm parts ports lines is short inputs =
+    let found = first_block flat.blocks flat.entry is.single is.entry in
     let block = found.0 in
     let stands = found.1 in
-    let code : image.code ≡ map code_of (block_code (Some block)) =
-    is.code ∙ ap words_of parts ∙ words_of-parts (program flat) ∙ ap (λ (o : Option FlatBlock). map code_of (block_code o)) stands in
-    let all : All (IsBlock image.ports flat.stack) (block ∷ []) = subst (λ (bs : List FlatBlock). All (IsBlock image.ports flat.stack) bs) found.2 is.fits.blocks in
-    let fits : IsBlock image.ports image.stack block = subst (λ n. IsBlock image.ports n block) (sym is.stack) (All-head (IsBlock image.ports flat.stack) block [] all) in
-    let follows = starts_block image lines block is.rules is.areas code fits inputs in
-    block_law flat image lines block stands follows
+    let left = code_from block.steps block.tail in
+    let same : program flat ≡ left = ap block_code stands in
+    let code : words_of asm.parts ≡ map code_of left = ap words_of parts ∙ words_of-parts (program flat) ∙ ap (map code_of) same in
+    let count : length asm.parts ≡ length left = ap length parts ∙ length-map (program flat) part ∙ ap length same in
+    let all : All (IsBlock ports flat.stack) (block ∷ []) = subst (λ (bs : List FlatBlock). All (IsBlock ports flat.stack) bs) found.2 is.blocks in
+    let fits : IsBlock ports flat.stack block = All-head (IsBlock ports flat.stack) block [] all in
+    record {
+      block = block;
+      stands = stands;
+      follows = starts_block (words_of asm.parts) ports flat.stack lines block is.rules is.stack_most (omega (arith, short, count)) code fits inputs;
+    }
+
+pub keeps : (flat : Flat) (asm : Asm) → asm.parts ≡ parts_of flat → KeepsLaw flat asm
+keeps flat asm parts ports lines is short inputs =
+    let b = begun flat asm parts ports lines is short inputs in
+    block_law flat (words_of asm.parts) ports lines b.block b.stands b.follows
+
+pub accesses : (flat : Flat) (asm : Asm) → asm.parts ≡ parts_of flat → AccessLaw flat asm
+accesses flat asm parts ports lines is short inputs =
+    let b = begun flat asm parts ports lines is short inputs in
+    keeps_accesses ports flat.stack (entered b.block lines) (started (words_of asm.parts) ports 0 flat.stack lines) b.follows

@@ -1,20 +1,24 @@
 -- The machine simulates a flat program, and so keeps the law with it.
-use Rattle.std.proofs.Common.{◌≡◌, ℕ, zero, suc, List, Option, Some, None, refl, ap, sym, ◌∙◌}
-use Rattle.std.specs.Prelude.{option_map}
+use Rattle.std.proofs.Common.{◌≡◌, ℕ, zero, suc, List, Option, Some, None, refl, ap, sym, ◌∙◌, subst}
+use Rattle.std.specs.Prelude.{option_map, IfSome}
 use Rattle.hb_base.specs.declared.port.Port.{Port}
 use Rattle.hb_base.specs.declared.step.Step.{Step}
 use Rattle.hb_base.specs.declared.step.Stop.{Stop}
 use Rattle.hb_flat.specs.Meaning.{Thread, Turn, Quiet, Event, End, turn as flat_turn, followed as flat_followed, shown as flat_shown}
-use Rattle.hb_mach.specs.Run.{shown, turn}
-use Rattle.hb_mach.specs.State.{State}
-use Rattle.hb_mach.proofs.TurnLaws.{told-shown}
+use Rattle.hb_isa.specs.Run.{shown, turn}
+use Rattle.hb_isa.specs.State.{State}
+use Rattle.hb_isa.specs.Table.{table}
+use Rattle.hb_isa.specs.Touches.{Access, Allowed, touches, touched}
+use Rattle.hb_isa.proofs.TurnLaws.{told-shown, after-reached}
+use Rattle.hb_runs.specs.Stepping.{after}
+use Rattle.hb_select.specs.Law.{NoCell}
 use Rattle.hb_runs.specs.Outcome.{Outcome}
 use Rattle.hb_runs.specs.System.{Finished, By, Stuck, told, followed, IsSane, weighed, by_end, shows_first}
 use Rattle.hb_runs.specs.Law.{Law, course_of, by_turns}
 use Rattle.hb_runs.specs.Simulation.{Simulates}
 use Rattle.hb_runs.proofs.Counting.{counted}
 use Rattle.hb_runs.proofs.LawLaws.{seen_plainly}
-use Rattle.hb_runs.proofs.Simulating.{law}
+use Rattle.hb_runs.proofs.Simulating.{law, always}
 use Rattle.hb_select.specs.Weights.{turned, system_of}
 use Rattle.hb_select.proofs.Goes.{IsFine, machine}
 use Rattle.hb_select.proofs.Turns.{Follows, matches}
@@ -46,7 +50,7 @@ flat-sane ports t n = λ stuck. never_stuck (flat_shown ports n t) (ap (λ (o : 
 
 -- ---- the law
 
-pub simulates : (ports : List Port) (stack : ℕ) → Simulates (system_of ports) machine (λ t. IsFine) (Follows ports stack)
+pub simulates : (ports : List Port) (stack : ℕ) → Simulates (system_of ports) machine (λ t. IsFine ports stack) (Follows ports stack)
 simulates ports stack t s f = matches ports stack t s f
 
 plain : (ports : List Port) (t : Thread) (s : State) → s.ended ≡ None → Law (course_of (system_of ports) t) (by_turns turn s)
@@ -68,4 +72,18 @@ pub keeps_law : (ports : List Port) (stack : ℕ) (t : Thread) (s : State) → F
     → Law (record { shows = λ n. flat_shown ports n t; costs = λ n. weighed (system_of ports) n t }) (record { shows = λ n. shown s n; costs = λ n. n })
 keeps_law ports stack t s f =
     plain ports t s f.is.going
-    (counted (course_of (system_of ports) t) turn s (law (system_of ports) machine (λ t. IsFine) (Follows ports stack) (simulates ports stack) t s f (flat-sane ports t)))
+    (counted (course_of (system_of ports) t) turn s (law (system_of ports) machine (λ t. IsFine ports stack) (Follows ports stack) (simulates ports stack) t s f (flat-sane ports t)))
+
+-- ---- where accesses lie
+
+touches_nothing : (s : State) (stop : Stop) → s.ended ≡ Some stop → touches s ≡ None
+unfolding touches touched
+touches_nothing s stop e = ap (λ ended. touched ended s) e
+
+pub keeps_accesses : (ports : List Port) (stack : ℕ) (t : Thread) (s : State) → Follows ports stack t s → (steps : ℕ) → IsFine ports stack (after table steps s)
+keeps_accesses ports stack t s f steps = by (after table steps s).ended refl
+  where
+    by : (ended : Option Stop) → (after table steps s).ended ≡ ended → IsFine ports stack (after table steps s)
+    by None e =
+        (always (system_of ports) machine (λ t. IsFine ports stack) (Follows ports stack) (simulates ports stack) t s f (flat-sane ports t) steps (after table steps s) (after-reached steps s e)).good
+    by (Some stop) e = subst (λ (access : Option Access). IfSome access (Allowed NoCell ports stack)) (sym (touches_nothing (after table steps s) stop e)) tt

@@ -22,8 +22,8 @@ use Rattle.hb_flat.specs.Meaning.{Thread, Turn, value_of, read_at, written_at, t
 use Rattle.hb_flat.specs.Rules.{IsOperand, IsStep}
 use Rattle.hb_asm.specs.Arithmetic.{alu_of}
 use Rattle.hb_base.specs.Inputs.{first_value, without_first, AreInputs}
-use Rattle.hb_mach.specs.State.{State}
-use Rattle.hb_mach.proofs.PortLaws.{AreInputs-without_first}
+use Rattle.hb_isa.specs.State.{State}
+use Rattle.hb_isa.proofs.InputLaws.{AreInputs-without_first}
 use Rattle.hb_select.specs.Code.{operand_code, put_code, load_of, store_of, step_code, tail_code, code_from}
 use Rattle.hb_runs.specs.Simulation.{Matches as MatchesTurn}
 use Rattle.hb_select.specs.Weights.{weight, next_weight, turned}
@@ -43,7 +43,7 @@ pub record Follows (ports : List Port) (stack : ℕ) (t : Thread) (s : State) : 
 
 -- what a count does, the machine does in so many instructions at most
 abbrev pub Matches : List Port → ℕ → ℕ → State → Turn → Type 0
-Matches ports stack most s moved = MatchesTurn machine IsFine (Follows ports stack) most s (turned moved)
+Matches ports stack most s moved = MatchesTurn machine (IsFine ports stack) (Follows ports stack) most s (turned moved)
 
 none_is_some : IsSome {T = ℕ} None → ⊥
 none_is_some e = cc
@@ -75,7 +75,7 @@ set_done ports stack word a left words lines s is h fits =
     (again ports stack _ (operand_code 5 a ++ (put_code word ++ left)) words lines s (append_assoc (operand_code 5 a) (put_code word) left) is) fits (omega arith) refl in
     let last : Keeps ports stack left (slice_set words word (value_of words a)) lines 2 [] first.next =
     sets ports stack word (value_of words a) left words lines first.next first.is h (operand-fits stack words a first.next first.is.frame fits) first.puts in
-    record { next = last.next; goes = together s first.next last.next 2 2 [] [] first.goes last.goes; is = last.is }
+    record { next = last.next; goes = together ports stack s first.next last.next 2 2 [] [] first.goes last.goes; is = last.is }
 
 alu_done : (ports : List Port) (stack word : ℕ) (op : AluOp) (a b : Operand) (left : List Instr) (words : List ℕ) (lines : List ScriptLine) (s : State)
     → IsAt ports stack (step_code (Alu word op a b) ++ left) words lines s → word < length words → IsOperand (length words) a → IsOperand (length words) b
@@ -95,9 +95,9 @@ alu_done ports stack word op a b left words lines s is h fits fits' =
     operates ports stack op (value_of words a) (value_of words b) (put_code word ++ left) words lines next.next next.is kept next.puts in
     let small : value < 2 ^ 32 = alu-fits op (value_of words a) (value_of words b) (operand-fits stack words a done.next done.is.frame fits) (operand-fits stack words b done.next done.is.frame fits') in
     let last : Keeps ports stack left (slice_set words word value) lines 2 [] done.next = sets ports stack word value left words lines done.next done.is h small done.puts in
-    let loaded : Goes s 4 [] next.next = together s first.next next.next 2 2 [] [] first.goes next.goes in
-    let operated : Goes s 5 [] done.next = together s next.next done.next 4 1 [] [] loaded done.goes in
-    record { next = last.next; goes = together s done.next last.next 5 2 [] [] operated last.goes; is = last.is }
+    let loaded : Goes ports stack s 4 [] next.next = together ports stack s first.next next.next 2 2 [] [] first.goes next.goes in
+    let operated : Goes ports stack s 5 [] done.next = together ports stack s next.next done.next 4 1 [] [] loaded done.goes in
+    record { next = last.next; goes = together ports stack s done.next last.next 5 2 [] [] operated last.goes; is = last.is }
 
 -- ---- each kind of count
 
@@ -174,12 +174,12 @@ reads_matches ports stack word address width t s f h some = by_port (read_at por
     by_line place found None none =
         let met = read-met ports address width place f.rules found in
         let before = first (met-small address width met) in
-        let last : Halts (InputEnd place) 0 before.next =
+        let last : Halts ports stack (InputEnd place) 0 before.next =
         lacks ports stack (put_code word ++ left) t.words t.lines address width place before.next (record { is = before.is; met = met; holds = before.puts }) found none in
         record {
           turns = 2;
           last = last.last;
-          walk = together s before.next last.last 2 0 [] [] before.goes last.goes;
+          walk = together ports stack s before.next last.last 2 0 [] [] before.goes last.goes;
           good = last.fine;
           ends = last.ends;
           bounded = at_most s 3 _ (omega arith);
@@ -193,12 +193,12 @@ reads_matches ports stack word address width t s f h some = by_port (read_at por
         takes ports stack (put_code word ++ left) t.words t.lines address width place value before.next (record { is = before.is; met = met; holds = before.puts }) found line in
         let last : Keeps ports stack left (slice_set t.words word value) waiting 2 [] taken.next =
         sets ports stack word value left t.words waiting taken.next taken.is h (line-fits _ ports t.lines place value f.rules f.inputs found line) taken.puts in
-        let middle : Goes s 3 event taken.next = together s before.next taken.next 2 1 [] event before.goes taken.goes in
+        let middle : Goes ports stack s 3 event taken.next = together ports stack s before.next taken.next 2 1 [] event before.goes taken.goes in
         record {
           turns = 5;
           to = last.next;
           least = omega arith;
-          walk = together s taken.next last.next 3 2 event [] middle last.goes;
+          walk = together ports stack s taken.next last.next 3 2 event [] middle last.goes;
           bounded = at_most s 5 _ (omega arith);
           holds = record {
             is = last.is;
@@ -254,12 +254,12 @@ writes_matches ports stack address width a t s f some fits = by_port (written_at
         let last : Keeps ports stack left t.words t.lines 1 event next.next =
         gives ports stack left t.words t.lines address width place value next.next
         (record { is = next.is; met = met; holds = stays next.next.registers first.next.registers address (next.others 5 (omega arith)) first.puts }) found next.puts (operand-fits stack t.words a next.next next.is.frame fits) in
-        let loaded : Goes s 4 [] next.next = together s first.next next.next 2 2 [] [] first.goes next.goes in
+        let loaded : Goes ports stack s 4 [] next.next = together ports stack s first.next next.next 2 2 [] [] first.goes next.goes in
         record {
           turns = 5;
           to = last.next;
           least = omega arith;
-          walk = together s next.next last.next 4 1 [] event loaded last.goes;
+          walk = together ports stack s next.next last.next 4 1 [] event loaded last.goes;
           bounded = at_most s 5 _ (omega arith);
           holds = record { is = last.is; rules = f.rules; steps = rest; inputs = f.inputs };
         }
@@ -276,7 +276,7 @@ tail_matches : (ports : List Port) (stack : ℕ) (tail : FlatTail) (words : List
     → IsAt ports stack (code_from [] tail) words lines s → Matches ports stack 2 s (closes tail)
 unfolding closes code_from turned
 tail_matches ports stack Done words lines s is =
-    let h : Halts DoneStop 1 s = is_done ports stack words lines s is in
+    let h : Halts ports stack DoneStop 1 s = is_done ports stack words lines s is in
     record { turns = 1; last = h.last; walk = h.goes; good = h.fine; ends = h.ends; bounded = at_most s 2 _ (omega arith) }
 
 step_matches : (ports : List Port) (stack : ℕ) (step : FlatStep) (t : Thread) (s : State)

@@ -1,7 +1,8 @@
 pub mod Whole
 pub mod FindingLaws
 pub mod PreparingLaws
-mod SourceLaws
+pub mod SourceLaws
+pub mod Alone
 pub mod ExecuteLaws
 pub mod Composition
 pub mod Headline

@@ -22,10 +22,10 @@ use Rattle.hb_top.specs.Sources.{most_bytes, Accepts, Breaks, too_long, no_progr
 use Rattle.hb_top.specs.Steps.{failure_of, IsOtherForm, JudgesForm, JudgesSource}
 
 -- the program is the only one that the bytes spell
-abbrev IsOnly : List ℕ → List (List ℕ) → Program → Type 0
+abbrev pub IsOnly : List ℕ → List (List ℕ) → Program → Type 0
 IsOnly bytes names program = (table : List (List ℕ)) (p : Program) → SpellsProgram fixed_names bytes table p → (program ≡ p) × (names ≡ table)
 
-same_form : {bytes : List ℕ} {names : List (List ℕ)} {program : Program} → IsOnly bytes names program → (source : Source) → Accepts bytes source → IsForm names program source
+pub same_form : {bytes : List ℕ} {names : List (List ℕ)} {program : Program} → IsOnly bytes names program → (source : Source) → Accepts bytes source → IsForm names program source
 same_form {names} {program} only source a =
     let same = only a.names a.program a.spelled in
     subst (λ (p : Program). IsForm names p source) (sym same.0) (subst (λ table. IsForm table a.program source) (sym same.1) a.form)

@@ -2,6 +2,7 @@
 use Rattle.std.specs.Prelude.{◌+◌, ◌≤◌, max, List, [], ◌∷◌}
 use Rattle.std.proofs.Common.{arith}
 use denote.Param.Weighed.{most}
+use Rattle.hb_base.specs.declared.place.Place.{Place}
 use Rattle.hb_tree.specs.Initials.{init_size, fields_size}
 use Rattle.hb_tree.specs.InitialViews.{field_inits, init_kind}
 use Rattle.hb_tree.specs.declared.initial.InitKind.{InitKind as Kind}
@@ -13,7 +14,7 @@ pub fields_fall : (fs : List FieldInit) → most (λ f. deep-FieldInit f) fs ≤
 fields_fall [] = omega arith
 fields_fall (f ∷ fs) = omega (arith, fields_fall fs)
 
-pub kind_falls : (k : Kind) → max (deep-InitKind k) 0 ≤ init_size (init_kind k)
-kind_falls (kind.Each name i) = omega arith
-kind_falls (kind.Fields fs) = omega (arith, fields_fall fs)
-kind_falls (kind.Cell first e) = omega arith
+pub kind_falls : (place : Place) (k : Kind) → max (deep-InitKind k) 0 ≤ init_size (init_kind place k)
+kind_falls place (kind.Each name i) = omega arith
+kind_falls place (kind.Fields fs) = omega (arith, fields_fall fs)
+kind_falls place (kind.Cell e) = omega arith

@@ -1,5 +1,6 @@
 -- What contracts see of an initialiser.
 use Rattle.std.specs.Prelude.{List, [], ◌∷◌}
+use Rattle.hb_base.specs.declared.place.Place.{Place}
 use Rattle.hb_tree.specs.Initials.{InitExpr, Each, Fields, Cell, FieldInits, NoFieldInits, MoreFieldInits}
 use Rattle.hb_tree.specs.declared.initial.InitKind.{InitKind as Kind}
 use Rattle.hb_tree.specs.declared.initial.InitKind.TheVariants as kind
@@ -10,8 +11,8 @@ abbrev pub field_inits : List FieldInit → FieldInits
 field_inits [] = NoFieldInits
 field_inits (f ∷ fs) = MoreFieldInits f.name f.init (field_inits fs)
 
--- the form, with each part as it is seen
-abbrev pub init_kind : Kind → InitExpr
-init_kind (kind.Each name i) = Each name i.value
-init_kind (kind.Fields fs) = Fields (field_inits fs)
-init_kind (kind.Cell first e) = Cell first e
+-- the form at this place, with each part as it is seen
+abbrev pub init_kind : Place → Kind → InitExpr
+init_kind place (kind.Each name i) = Each place name i.value
+init_kind place (kind.Fields fs) = Fields place (field_inits fs)
+init_kind place (kind.Cell e) = Cell place e

@@ -1,4 +1,4 @@
--- Initialisers of areas, as contracts see them.
+-- Initialisers of areas, as contracts see them, each with the place of its first token.
 use Rattle.std.specs.Prelude.{ℕ, ◌+◌}
 use Rattle.hb_base.specs.declared.place.Place.{Place}
 use Rattle.hb_tree.specs.declared.types.NameAt.{NameAt}
@@ -6,8 +6,8 @@ use Rattle.hb_tree.specs.Expressions.{Expr}
 
 mutual
   pub data InitExpr : Type 0 where
-    Each : NameAt → InitExpr → InitExpr
-    Fields : FieldInits → InitExpr
+    Each : Place → NameAt → InitExpr → InitExpr
+    Fields : Place → FieldInits → InitExpr
     Cell : Place → Expr → InitExpr
 
   -- the name of the first field, what it begins with, and the other fields
@@ -18,9 +18,9 @@ mutual
 -- how many forms and list entries an initialiser is made of: each part has fewer
 abbrev mutual
   pub init_size : InitExpr → ℕ
-  init_size (Each name i) = init_size i + 1
-  init_size (Fields fs) = fields_size fs + 1
-  init_size (Cell first e) = 1
+  init_size (Each place name i) = init_size i + 1
+  init_size (Fields place fs) = fields_size fs + 1
+  init_size (Cell place e) = 1
 
   pub fields_size : FieldInits → ℕ
   fields_size NoFieldInits = 0

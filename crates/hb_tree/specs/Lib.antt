@@ -15,3 +15,4 @@ pub mod InitialViews
 pub mod PatternFalls
 pub mod ExpressionFalls
 pub mod InitialFalls
+pub mod Things

@@ -8,21 +8,22 @@ use hb_base::{List, Memory, Place};
 use std::alloc::Global;
 use std::marker::Model;
 
-/// What an area begins with.
+/// What an area begins with, at the place of its first token, brackets counted.
 #[cycle(initials)]
 #[derive(Debug, Drop)]
 pub struct InitExpr {
+    pub place: Place,
     pub kind: InitKind,
 }
 
 /// The form of an initialiser: one for each element, with the name of the index; one for each field; or a cell's
-/// expression. The place of a cell is the first token of its expression, brackets counted.
+/// expression.
 #[cycle(initials)]
 #[derive(Debug, Drop)]
 pub enum InitKind {
     Each(NameAt, Box<InitExpr>),
     Fields(List<FieldInit>),
-    Cell(Place, Expr),
+    Cell(Expr),
 }
 
 /// A field of a struct, and what it begins with.
@@ -43,40 +44,48 @@ impl Model for InitExpr {
 
     ghost use Rattle.hb_tree.specs.InitialViews.{init_kind};
 
-    ghost view = { λ i. init_kind i.kind };
+    ghost view = { λ i. init_kind i.place i.kind };
 
     ghost size = { init_size };
 
     ghost use Rattle.hb_tree.specs.InitialFalls.{kind_falls};
 
-    ghost size_decreases = { λ i h. kind_falls i.kind };
+    ghost size_decreases = { λ i h. kind_falls i.place i.kind };
 }
 
 impl InitExpr {
-    /// Each element, with its index as a name, begins as `init` says.
-    pub fn each(alloc: Global, index: NameAt, init: InitExpr) -> Result<InitExpr, Memory>
-        ensures built { IfOk result (λ i. i ≡ tree.Each index init) }
+    /// Each element, with its index as a name, begins as `init` says. The word `each` stands at `place`.
+    pub fn each(
+        alloc: Global,
+        place: Place,
+        index: NameAt,
+        init: InitExpr,
+    ) -> Result<InitExpr, Memory>
+        ensures built { IfOk result (λ i. i ≡ tree.Each place index init) }
     {
         Ok(InitExpr {
+            place,
             kind: InitKind::Each(index, Box::new(alloc, init)?),
         })
     }
 
-    /// Each field begins as its initialiser says.
-    pub fn fields(fields: List<FieldInit>) -> InitExpr
-        ensures built { result ≡ tree.Fields (field_inits fields) }
+    /// Each field begins as its initialiser says. The word `fields` stands at `place`.
+    pub fn fields(place: Place, fields: List<FieldInit>) -> InitExpr
+        ensures built { result ≡ tree.Fields place (field_inits fields) }
     {
         InitExpr {
+            place,
             kind: InitKind::Fields(fields),
         }
     }
 
-    /// A cell begins as the expression, whose first token stands at `first`.
-    pub fn cell(first: Place, value: Expr) -> InitExpr
-        ensures built { result ≡ tree.Cell first value }
+    /// A cell begins as the expression, whose first token stands at `place`.
+    pub fn cell(place: Place, value: Expr) -> InitExpr
+        ensures built { result ≡ tree.Cell place value }
     {
         InitExpr {
-            kind: InitKind::Cell(first, value),
+            place,
+            kind: InitKind::Cell(value),
         }
     }
 }

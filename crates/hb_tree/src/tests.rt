@@ -121,19 +121,20 @@ fn a_block_holds_a_definition(rt: HostRuntime) -> Result<(), Fail> {
 }
 
 #[test]
-fn an_initialiser_keeps_the_first_token_of_its_cell(rt: HostRuntime) -> Result<(), Fail> {
+fn an_initialiser_keeps_its_first_token(rt: HostRuntime) -> Result<(), Fail> {
     let index = NameAt {
         place: at(20),
         name: Name(73),
     };
     let cell = InitExpr::cell(at(25), Expr::number(at(26), 9));
-    let init = InitExpr::each(rt.alloc(), index, cell)?;
+    let init = InitExpr::each(rt.alloc(), at(15), index, cell)?;
+    assert!(rt; init.place == at(15));
     assert!(rt;
         match &init.kind {
             InitKind::Each(index, part) => {
                 index.name == Name(73)
                     && match &part.kind {
-                        InitKind::Cell(first, value) => *first == at(25) && value.place == at(26),
+                        InitKind::Cell(value) => part.place == at(25) && value.place == at(26),
                         _ => false,
                     }
             }

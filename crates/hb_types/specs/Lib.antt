@@ -7,3 +7,5 @@ pub mod TypeCodes
 pub mod Tables
 pub mod Uses
 pub mod UseCodes
+pub mod Finite
+pub mod Instance

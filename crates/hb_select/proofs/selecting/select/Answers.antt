@@ -2,7 +2,7 @@
 use Rattle.std.proofs.Common.{List, get_or, ◌∙◌, arith, ap}
 use Rattle.hb_flat.specs.declared.form.FlatBlock.{FlatBlock}
 use Rattle.hb_select.proofs.PartsLaws.{all_parts, parts_range}
-use Rattle.hb_select.proofs.Selects.{keeps}
+use Rattle.hb_select.proofs.Selects.{keeps, accesses}
 use Rattle.hb_select.proofs.selecting.select.Goals as goal
 
 pub returns-clause-parts : goal.returns-clause-parts
@@ -18,4 +18,7 @@ pub returns-clause-range : goal.returns-clause-range
 returns-clause-range c = parts_range c.args.flat.now c.push_tail.new.parts (returns-clause-parts c)
 
 pub returns-clause-law : goal.returns-clause-law
-returns-clause-law c = keeps c.args.flat.now _ (returns-clause-parts c)
+returns-clause-law c = keeps c.args.flat.now (record { parts = c.push_tail.new.parts; entry = c.args.flat.now.entry }) (returns-clause-parts c)
+
+pub returns-clause-accesses : goal.returns-clause-accesses
+returns-clause-accesses c = accesses c.args.flat.now (record { parts = c.push_tail.new.parts; entry = c.args.flat.now.entry }) (returns-clause-parts c)

@@ -4,7 +4,7 @@ use Rattle.std.proofs.lemmas.Bool.{leb-true, le-leb, lt-leb, and_parts, cases_lt
 use Rattle.std.proofs.lemmas.List.{length-replicate}
 use Rattle.std.proofs.lemmas.Nat.{mod-pow-add}
 use Rattle.std.proofs.lemmas.Option.{get_or_from_slice_get, slice_get_past, unwrap_or-slice_get}
-use Rattle.hb_mach.specs.Memory.{Region, Memory, byte_in, byte_at, byte_of, end_of, is_within, number_at, put_number, number_in, put_in, load, store, zeroed, AreApart}
+use Rattle.hb_isa.specs.Memory.{Region, Memory, byte_in, byte_at, byte_of, end_of, is_within, number_at, put_number, number_in, put_in, load, store, zeroed, AreApart}
 
 -- ---- lists of bytes
 

@@ -1,14 +1,27 @@
-ghost use Rattle.std.specs.Prelude.{◌<◌, ◌^◌, All};
+ghost use Rattle.std.specs.Prelude.{◌≡◌, ◌<◌, ◌^◌, All};
+ghost use Rattle.hb_asm.specs.declared.instr.AluOp.TheVariants as operation;
+ghost use Rattle.hb_asm.specs.declared.instr.Instr.TheVariants as instruction;
 ghost use Rattle.hb_asm.specs.InRange.{InRange, IsImmediate};
 
-use crate::mnemonics::addi;
-use crate::{divide_code, multiply_code};
-use hb_asm::{Instr, encode};
+use hb_asm::{AluOp, Instr, encode};
 use hb_base::{List, Memory, Script, Step, Stop};
 use hb_image::Image;
 use hb_mach::Machine;
+use hb_rt::{divide_code, multiply_code};
 use std::alloc::Global;
 use std::test::Fail;
+
+/// rd gets the sum of rs1 and a number.
+fn addi(rd: u8, rs1: u8, imm: i32) -> Instr
+    ensures { result ≡ instruction.OpImm operation.Add rd rs1 imm }
+{
+    Instr::OpImm {
+        op: AluOp::Add,
+        rd,
+        rs1,
+        imm,
+    }
+}
 
 /// A program that sets x10 and x11, each to its high 20 bits and a number that is added, goes through the routine, and
 /// halts with what a register then holds.

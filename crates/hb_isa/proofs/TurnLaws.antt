@@ -2,15 +2,15 @@
 use Rattle.std.proofs.Common.{◌≡◌, ℕ, zero, suc, List, [], ◌∷◌, Option, Some, None, refl, ap, sym, ◌∙◌}
 use Rattle.std.specs.Prelude.{option_map}
 use Rattle.hb_base.specs.declared.step.Step.{Step}
-use Rattle.hb_base.specs.declared.step.Step.TheVariants.{Read, Wrote, Ended}
+use Rattle.hb_base.specs.declared.step.Step.TheVariants.{Going, Read, Wrote, Ended}
 use Rattle.hb_base.specs.declared.step.Stop.{Stop}
 use Rattle.hb_runs.specs.Outcome.{Outcome}
 use Rattle.hb_runs.specs.Stepping.{after, answers}
-use Rattle.hb_runs.specs.System.{Finished, By, told, followed, over, by_end, shows_first}
-use Rattle.hb_mach.specs.State.{State}
-use Rattle.hb_mach.specs.Table.{table, running}
-use Rattle.hb_mach.specs.Run.{events, shown, turn_of, turn}
-use Rattle.hb_mach.proofs.RunLaws.{Turn, Quiet, Reads, Writes, Stops, Over, turns}
+use Rattle.hb_runs.specs.System.{Finished, By, told, followed, over, by_end, shows_first, reached, reached_after}
+use Rattle.hb_isa.specs.State.{State}
+use Rattle.hb_isa.specs.Table.{table, running}
+use Rattle.hb_isa.specs.Run.{events, shown, turn_of, turn}
+use Rattle.hb_isa.proofs.RunLaws.{Turn, Quiet, Reads, Writes, Stops, Over, turns}
 
 -- after an end nothing moves
 stays_over : (stop : Stop) (s : State) → s.ended ≡ Some stop → table s ≡ (s, Ended stop)
@@ -57,3 +57,44 @@ pub told-shown : (n : ℕ) (s : State) → s.ended ≡ None → told turn n s �
 unfolding told turn shown after answers with_end shown_from
 told-shown zero s going = ap with_end (sym going)
 told-shown (suc n) s going = by_turn n (table s).0 (table s).1 s.ended (table s).0.ended going refl (turns s) (λ t still. told-shown n t still)
+
+-- ---- where it is after so many steps
+
+not_over : (n : ℕ) (s : State) (stop : Stop) → s.ended ≡ Some stop → (after table n s).ended ≡ None → ⊥
+not_over n s stop e going = no (sym (ap (λ (t : State). t.ended) (after_over n stop s e) ∙ e) ∙ going)
+  where
+    no : Some stop ≡ None → ⊥
+    no e = cc
+
+reached_turn : (n : ℕ) (next t : State) (answer : Step) → reached_after (reached turn n) (turn_of (next, answer)) ≡ Some t → ((s : State) → reached turn n s ≡ Some t → after table n s ≡ t) → after table n next ≡ t
+unfolding reached_after turn_of
+reached_turn n next t Going e rest = rest next e
+reached_turn n next t (Read port value) e rest = rest next e
+reached_turn n next t (Wrote port value) e rest = rest next e
+reached_turn n next t (Ended stop) e rest = absurd (no e)
+  where
+    no : None ≡ Some t → ⊥
+    no e = cc
+
+pub reached-after : (n : ℕ) (s t : State) → reached turn n s ≡ Some t → after table n s ≡ t
+unfolding reached after turn
+reached-after zero s t e = some e
+  where
+    some : Some s ≡ Some t → s ≡ t
+    some e = cc
+reached-after (suc n) s t e = reached_turn n (table s).0 t (table s).1 e (λ u f. reached-after n u t f)
+
+going_turn : (n : ℕ) (next : State) (answer : Step) (before now : Option Stop) → next.ended ≡ now → Turn before now answer → (after table n next).ended ≡ None
+    → ((s : State) → (after table n s).ended ≡ None → reached turn n s ≡ Some (after table n s)) → reached_after (reached turn n) (turn_of (next, answer)) ≡ Some (after table n next)
+unfolding reached_after turn_of
+going_turn n next _ _ _ now Quiet going rest = rest next going
+going_turn n next _ _ _ now (Reads port value) going rest = rest next going
+going_turn n next _ _ _ now (Writes port value) going rest = rest next going
+going_turn n next _ _ _ now (Stops stop) going rest = absurd (not_over n next stop now going)
+going_turn n next _ _ _ now (Over stop) going rest = absurd (not_over n next stop now going)
+
+-- while the run is going, the state after so many steps is reached
+pub after-reached : (n : ℕ) (s : State) → (after table n s).ended ≡ None → reached turn n s ≡ Some (after table n s)
+unfolding reached after turn
+after-reached zero s going = refl
+after-reached (suc n) s going = going_turn n (table s).0 (table s).1 s.ended (table s).0.ended refl (turns s) going (λ u still. after-reached n u still)

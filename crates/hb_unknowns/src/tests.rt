@@ -1,0 +1,96 @@
+ghost use Rattle.std.specs.Prelude.{◌≡◌, ◌<◌, ◌+◌, ◌≤◌, IfOk, OnOk};
+ghost use Rattle.hb_unknowns.specs.Equations.{type_count};
+
+use crate::error::EquateError;
+use crate::unknowns::Unknowns;
+use hb_base::Memory;
+use hb_types::{Atom, Kind};
+use std::alloc::Global;
+use std::test::Fail;
+
+/// So many unknowns, at the places from 0.
+fn unknowns(alloc: Global, count: usize) -> Result<Unknowns, Memory>
+    ensures { IfOk result (λ u. type_count u ≡ count) }
+{
+    let mut all = Unknowns::new(alloc);
+    for _number in 0..count {
+        let _unknown = all.fresh(Kind::star())?;
+    }
+    Ok(all)
+}
+
+/// The pair of two types: the constructor 0 applied to both.
+fn pair(all: &mut Unknowns, first: usize, second: usize) -> Result<usize, Memory>
+    requires first { first < type_count all.old }
+    requires second { second < type_count all.old }
+    ensures grown { IfOk result (λ place. (place < type_count all.new) × (type_count all.new ≡ type_count all.old + 3)) }
+{
+    let con = all.leaf(Atom::Con(0))?;
+    let half = all.apply(con, first)?;
+    let whole = all.apply(half, second)?;
+    Ok(whole)
+}
+
+/// Whether the equation was taken in.
+fn takes(all: &mut Unknowns, a: usize, b: usize) -> bool
+    requires a_known { a < type_count all.old }
+    requires b_known { b < type_count all.old }
+    ensures { type_count all.new ≡ type_count all.old }
+{
+    match all.equate(a, b) {
+        Ok(()) => true,
+        Err(_) => false,
+    }
+}
+
+#[test]
+fn a_type_is_no_part_of_itself(rt: HostRuntime) -> Result<(), Fail> {
+    let mut all = unknowns(rt.alloc(), 2)?;
+    let whole = pair(&mut all, 0, 1)?;
+    assert!(rt; matches!(all.equate(0, whole), Err(EquateError::Clash)));
+    let con = all.leaf(Atom::Con(1))?;
+    assert!(rt; takes(&mut all, 0, con));
+    Ok(())
+}
+
+#[test]
+fn numbers_and_constructors_differ(rt: HostRuntime) -> Result<(), Fail> {
+    let mut all = unknowns(rt.alloc(), 1)?;
+    let three = all.leaf(Atom::Nat(3))?;
+    let four = all.leaf(Atom::Nat(4))?;
+    let con = all.leaf(Atom::Con(3))?;
+    let again = all.leaf(Atom::Nat(3))?;
+    assert!(rt; takes(&mut all, 0, three));
+    assert!(rt; !takes(&mut all, 0, four));
+    assert!(rt; !takes(&mut all, con, 0));
+    assert!(rt; takes(&mut all, again, 0));
+    Ok(())
+}
+
+#[test]
+fn after_a_clash_all_is_as_before(rt: HostRuntime) -> Result<(), Fail> {
+    let mut all = unknowns(rt.alloc(), 4)?;
+    let three = all.leaf(Atom::Nat(3))?;
+    let four = all.leaf(Atom::Nat(4))?;
+    let left = pair(&mut all, 0, three)?;
+    let right = pair(&mut all, 1, four)?;
+    assert!(rt; takes(&mut all, 0, 2));
+    assert!(rt; !takes(&mut all, left, right));
+    assert!(rt; takes(&mut all, 0, three));
+    assert!(rt; takes(&mut all, 1, four));
+    assert!(rt; !takes(&mut all, 2, four));
+    Ok(())
+}
+
+#[test]
+fn a_long_chain_is_taken_in(rt: HostRuntime) -> Result<(), Fail> {
+    let mut all = unknowns(rt.alloc(), 100_001)?;
+    for number in 0..100_000 {
+        assert!(rt; takes(&mut all, number, number + 1));
+    }
+    let one = all.leaf(Atom::Con(1))?;
+    let two = all.leaf(Atom::Con(2))?;
+    assert!(rt; takes(&mut all, 0, one));
+    assert!(rt; !takes(&mut all, 100_000, two));
+    Ok(())
+}
