@@ -44,8 +44,8 @@ cells = record nothing_written {
       ∷ is_at 26 (stored unsigned ∷ unsigned ∷ []) ∷ is_at 27 (nat 2 ∷ stored unsigned ∷ []) ∷ is_at 30 (nat 2 ∷ []) ∷ [];
   structs = is_at 4 in_point ∷ [];
   areas =
-      record { of = array 2 (stored unsigned); initial = Some (init.Each (written_at 0) (init.Cell place (call_two 7 (v 1) 5 (call 4 (v 2) (v 3)) (e 6 (expr.Number 3))))) }
-      ∷ record { of = point; initial = Some (init.Fields (init.MoreFieldInits (written_at 2) (init.Cell place (e 8 (expr.Number 5))) init.NoFieldInits)) }
+      record { of = array 2 (stored unsigned); initial = Some (init.Each place (written_at 0) (init.Cell place (call_two 7 (v 1) 5 (call 4 (v 2) (v 3)) (e 6 (expr.Number 3))))) }
+      ∷ record { of = point; initial = Some (init.Fields place (init.MoreFieldInits (written_at 2) (init.Cell place (e 8 (expr.Number 5))) init.NoFieldInits)) }
       ∷ [];
   tops =
       row []

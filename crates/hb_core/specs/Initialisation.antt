@@ -50,10 +50,10 @@ unfoldable mutual
   pub initialises : View → InitExpr → Ty → ℕ → List Part → Env → Later → Tree
   initialises P (Cell place e) t area path env k =
       Due (Calls (OfCell (node e)) (cell_rows place e) [] env NoVals 0) (λ v. Due (Initialises area path v) (λ w. k tt))
-  initialises P (Each x i) t area path env k =
+  initialises P (Each place x i) t area path env k =
       with (elements_in (form t)) (λ part. turns part.count 0 (λ index next. initialises P i part.of area (path ++ Element index ∷ []) (Bind (P.index_at x.place) (Number index) env) next) k)
-  initialises P (Fields fs) t area path env k =
-      with (struct_of P (form t)) (λ fields. over_fields fields 0 (λ f place next. initialises_field P fs f area (path ++ Field place ∷ []) env next) k)
+  initialises P (Fields place fs) t area path env k =
+      with (struct_of P (form t)) (λ fields. over_fields fields 0 (λ f number next. initialises_field P fs f area (path ++ Field number ∷ []) env next) k)
 
   -- the field of a struct, if it has an initialiser
   pub initialises_field : View → FieldInits → StructField → ℕ → List Part → Env → Later → Tree
@@ -83,8 +83,8 @@ abbrev mutual
   -- the initialiser of a type has one for the cell at this path
   pub covers : View → InitExpr → Ty → List Part → Bool
   covers P (Cell place e) t path = true
-  covers P (Each x i) t (Element index ∷ path) = if_some (elements_in (form t)) (λ part. covers P i part.of path)
-  covers P (Fields fs) t (Field place ∷ path) = covers_field P fs (field_of P t place) path
+  covers P (Each place x i) t (Element index ∷ path) = if_some (elements_in (form t)) (λ part. covers P i part.of path)
+  covers P (Fields place fs) t (Field number ∷ path) = covers_field P fs (field_of P t number) path
   covers P i t path = false
 
   pub covers_field : View → FieldInits → Option StructField → List Part → Bool

@@ -74,8 +74,8 @@ IsIndexOf t None = Unit {0}
 abbrev mutual
   pub FitsInit : View → InitExpr → Option Ty → Type 0
   FitsInit P (Cell place e) t = HasType (P.type_of (node e)) (option_and_then (λ u. cell_type (form u)) t) × FitsExpr P [] e
-  FitsInit P (Each x i) t = IsIndexOf (P.local_type (P.index_at x.place)) (each_in t) × FitsInit P i (option_map (λ part. part.of) (each_in t))
-  FitsInit P (Fields fs) t = FitsFields P fs (struct_in P t)
+  FitsInit P (Each place x i) t = IsIndexOf (P.local_type (P.index_at x.place)) (each_in t) × FitsInit P i (option_map (λ part. part.of) (each_in t))
+  FitsInit P (Fields place fs) t = FitsFields P fs (struct_in P t)
 
   pub FitsFields : View → FieldInits → Option (List StructField) → Type 0
   FitsFields P NoFieldInits fields = Unit {0}
