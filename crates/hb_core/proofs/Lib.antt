@@ -5,3 +5,6 @@ pub mod DataExamples
 pub mod CellExamples
 pub mod ClassExamples
 pub mod PrimitiveExamples
+pub mod TypeLaws
+pub mod ChoiceLaws
+pub mod EntailmentLaws

@@ -1,6 +1,6 @@
 -- Which instance a class predicate at ground types chooses: the one whose head it is at some types. No two heads of an
 -- accepted source have a common instance.
-use Rattle.std.specs.Prelude.{ℕ, zero, suc, ◌==◌, ◌&&◌, Bool, cond, List, [], ◌∷◌, ◌++◌, Option, Some, None}
+use Rattle.std.specs.Prelude.{◌≡◌, ◌⊎◌, ℕ, zero, suc, ◌<◌, ◌==◌, ◌&&◌, Bool, true, cond, List, [], ◌∷◌, ◌++◌, slice_get, Option, Some, None}
 use Rattle.hb_types.specs.Types.{Ty, Unknown, Leaf, Apply}
 use Rattle.hb_types.specs.declared.atom.Atom.TheVariants.{Var}
 use Rattle.hb_core.specs.TypeForms.{puts, same_types}
@@ -47,3 +47,29 @@ pub record Choice : Type 0 where
 abbrev pub choose : List Instance → ℕ → List Ty → Option Choice
 choose [] class args = None
 choose (i ∷ more) class args = cond (is_at i class args) (Some (record { instance = i; types = instance_types i args })) (choose more class args)
+
+-- ---- when there is one choice at most
+
+-- the variable stands in a type, in some type of a list
+abbrev pub Occurs : ℕ → Ty → Type 0
+Occurs v (Leaf (Var w)) = w ≡ v
+Occurs v (Apply f x) = Occurs v f ⊎ Occurs v x
+Occurs v t = ⊥
+
+abbrev pub OccursInSome : ℕ → List Ty → Type 0
+OccursInSome v [] = ⊥
+OccursInSome v (t ∷ ts) = Occurs v t ⊎ OccursInSome v ts
+
+-- the variables of an instance are those of its head
+abbrev pub NamesItsVariables : Instance → Type 0
+NamesItsVariables i = (v : ℕ) → v < i.variables → OccursInSome v i.head
+
+-- no two instances are at one predicate
+abbrev pub AreApart : List Instance → Type 0
+AreApart instances =
+    (m n : ℕ) (i j : Instance) (class : ℕ) (args : List Ty)
+    → slice_get instances m ≡ Some i
+    → slice_get instances n ≡ Some j
+    → is_at i class args ≡ true
+    → is_at j class args ≡ true
+    → m ≡ n
