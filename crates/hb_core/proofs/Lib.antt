@@ -8,3 +8,4 @@ pub mod PrimitiveExamples
 pub mod TypeLaws
 pub mod ChoiceLaws
 pub mod EntailmentLaws
+pub mod TypingExamples
