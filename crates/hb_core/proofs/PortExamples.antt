@@ -1,5 +1,6 @@
 -- Ports, statements, calls and rooms: what small sources show.
-use Rattle.std.proofs.Common.{◌≡◌, [], ◌∷◌, refl}
+use Rattle.std.proofs.Common.{◌≡◌, ℕ, [], ◌∷◌, Some, None, refl}
+use Rattle.std.specs.Prelude.{◌==◌, cond}
 use Rattle.hb_base.specs.declared.step.Stop.TheVariants.{Done, Halt, Stack, InputEnd}
 use Rattle.hb_runs.specs.System.{followed, told}
 use Rattle.hb_runs.specs.Inner.{left_by}
@@ -11,7 +12,8 @@ use Rattle.hb_tree.specs.Expressions.{TakeThen, DoThen, NoStmts, MoreAlts, NoAlt
 use Rattle.hb_core.specs.Prims as prim
 use Rattle.hb_core.specs.View.{Primitive, Top, Local, APort}
 use Rattle.hb_core.specs.Evaluation.{eval, eval_kind, eval_fields, eval_alts, eval_rows, eval_binds, eval_stmts}
-use Rattle.hb_core.specs.Events.{Read, Wrote}
+use Rattle.hb_core.specs.Events.{Read, Wrote, next_line}
+use Rattle.hb_core.specs.Values.{Site, OfRows, OfLambda, OfSteps, OfCell}
 use Rattle.hb_core.specs.Initialisation.{turns, over_fields, initialises, initialises_field, initialises_areas}
 use Rattle.hb_core.proofs.Samples.{Sample, is_at, e, v, p, pv, call, call_two, row, bit, nothing_written, place, outcome, so_far, ended, stuck, lines}
 
@@ -130,3 +132,56 @@ has_no_row = record nothing_written {
 a_value_that_no_row_matches_has_no_rule : outcome has_no_row (λ n. 16) 16 [] 2 ≡ stuck []
 unfolding told followed stepped answered left_by digits eval eval_kind eval_fields eval_alts eval_rows eval_binds eval_stmts turns over_fields initialises initialises_field initialises_areas has_no_row
 a_value_that_no_row_matches_has_no_rule = refl
+
+-- the calls have 16 bytes, and the run of the `do` of `f` has 24
+abbrev rooms_of_f : Site → ℕ
+rooms_of_f (OfRows n) = 16
+rooms_of_f (OfLambda n) = 16
+rooms_of_f (OfSteps n) = cond (n == 9) 24 16
+rooms_of_f (OfCell n) = 16
+
+-- `main = do { f; halt 1 }`, `f = do { return 2 }`
+in_the_middle : Sample
+in_the_middle = record nothing_written {
+  targets = is_at 1 (Top 1) ∷ is_at 2 (Primitive prim.Halt) ∷ is_at 6 (Primitive prim.Return) ∷ [];
+  tops =
+      row [] (e 5 (expr.Do (DoThen (v 1) (DoThen (call 4 (v 2) (e 3 (expr.Number 1))) NoStmts))))
+      ∷ row [] (e 9 (expr.Do (DoThen (call 8 (v 6) (e 7 (expr.Number 2))) NoStmts)))
+      ∷ [];
+}
+
+-- `main = do { return 2; f }` with the same `f`
+at_the_end : Sample
+at_the_end = record nothing_written {
+  targets = is_at 1 (Top 1) ∷ is_at 2 (Primitive prim.Return) ∷ is_at 6 (Primitive prim.Return) ∷ [];
+  tops =
+      row [] (e 5 (expr.Do (DoThen (call 4 (v 2) (e 3 (expr.Number 2))) (DoThen (v 1) NoStmts))))
+      ∷ row [] (e 9 (expr.Do (DoThen (call 8 (v 6) (e 7 (expr.Number 2))) NoStmts)))
+      ∷ [];
+}
+
+a_statement_in_the_middle_stands_on_the_room_of_its_do : outcome in_the_middle (λ n. 16) 31 [] 3 ≡ ended [] Stack
+unfolding told followed stepped answered eval eval_kind eval_rows eval_binds eval_stmts initialises_areas in_the_middle
+a_statement_in_the_middle_stands_on_the_room_of_its_do = refl
+
+and_goes_on_where_there_is_room_for_both : outcome in_the_middle (λ n. 16) 32 [] 6 ≡ ended [] (Halt 1)
+unfolding told followed stepped answered eval eval_kind eval_rows eval_binds eval_stmts initialises_areas in_the_middle
+and_goes_on_where_there_is_room_for_both = refl
+
+an_action_in_the_middle_stands_on_it_too : outcome in_the_middle rooms_of_f 39 [] 4 ≡ ended [] Stack
+unfolding told followed stepped answered eval eval_kind eval_rows eval_binds eval_stmts initialises_areas in_the_middle
+an_action_in_the_middle_stands_on_it_too = refl
+
+the_last_action_takes_the_place_of_its_do : outcome at_the_end rooms_of_f 39 [] 7 ≡ ended [] Done
+unfolding told followed stepped answered eval eval_kind eval_rows eval_binds eval_stmts initialises_areas at_the_end
+the_last_action_takes_the_place_of_its_do = refl
+
+its_expression_is_no_tail : outcome at_the_end (λ n. 16) 31 [] 4 ≡ ended [] Stack
+unfolding told followed stepped answered eval eval_kind eval_rows eval_binds eval_stmts initialises_areas at_the_end
+its_expression_is_no_tail = refl
+
+each_line_is_taken_once : next_line 0 (lines 0 (1 ∷ 2 ∷ [])) (Read 0 1 ∷ Wrote 1 1 ∷ []) ≡ Some 2
+each_line_is_taken_once = refl
+
+a_port_has_its_own_lines : next_line 1 (lines 0 (1 ∷ 2 ∷ [])) [] ≡ None
+a_port_has_its_own_lines = refl

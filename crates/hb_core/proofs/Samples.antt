@@ -19,7 +19,7 @@ use Rattle.hb_steps.specs.Tree.{does}
 use Rattle.hb_core.specs.Actions.{answer}
 use Rattle.hb_core.specs.Events.{Event}
 use Rattle.hb_core.specs.Meaning.{whole}
-use Rattle.hb_core.specs.Values.{Site, OfRows, OfLambda, OfSteps, OfCell}
+use Rattle.hb_core.specs.Values.{Site}
 use Rattle.hb_core.specs.View.{View, Target, NoTarget, Instance, MethodOf, Con, DataCon, BitCon, BitType, StructField, AreaDecl}
 
 -- ---- numbers at which something stands
@@ -153,16 +153,9 @@ view s = record {
 
 -- ---- what it shows
 
--- a body's number is that of its site: so rooms stand in a list by the numbers of nodes
-abbrev pub number_of_site : Site → ℕ
-number_of_site (OfRows n) = n
-number_of_site (OfLambda n) = n
-number_of_site (OfSteps n) = n
-number_of_site (OfCell n) = n
-
--- what a sample shows at these rooms, where each body has one by its number
-abbrev pub outcome : Sample → (ℕ → ℕ) → ℕ → List ScriptLine → ℕ → Outcome Event (Finished Stop)
-outcome s room stack script n = does (answer (view s) (λ site ts. room (number_of_site site)) stack script) n (whole (view s))
+-- what a sample shows, where bodies have these rooms at all types
+abbrev pub outcome : Sample → (Site → ℕ) → ℕ → List ScriptLine → ℕ → Outcome Event (Finished Stop)
+outcome s room stack script n = does (answer (view s) (λ site ts. room site) stack script) n (whole (view s))
 
 abbrev pub so_far : List Event → Outcome Event (Finished Stop)
 so_far trace = record { trace = trace; end = None }
