@@ -1,0 +1,11 @@
+pub mod Growth
+pub mod Samples
+pub mod PortExamples
+pub mod DataExamples
+pub mod CellExamples
+pub mod ClassExamples
+pub mod PrimitiveExamples
+pub mod TypeLaws
+pub mod ChoiceLaws
+pub mod EntailmentLaws
+pub mod TypingExamples
