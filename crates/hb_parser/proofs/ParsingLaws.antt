@@ -116,10 +116,10 @@ pub tree_refused : {ts : List Token} {nodes : List DeclNode} {result : Result Pr
 tree_refused {ts} {result = Err f} h builds refusal fault = deep_is f h.derives (builds.refused ts h.program h.derives h.are) refusal fault
 tree_refused {result = Ok answer} h builds refusal fault = parsed_no_fault (tree_found h builds) refusal fault
 
--- what is parsed has at most four things for each token
-pub parsed_few : {ts : List Token} {result : Result Program Fault} → IfOk result (Parses ts) → IfOk result (λ p. program_things p ≤ 4 * length ts)
-parsed_few {result = Ok p} found = program_few found.derives
-parsed_few {result = Err f} found = tt
+-- what is read has at most four things for each token
+pub tree_few : {ts : List Token} {nodes : List DeclNode} {result : Result Program Fault} → HasNodes ts nodes → Builds nodes result → IfOk result (λ p. program_things p ≤ 4 * length ts)
+tree_few {result = Ok p} h builds = program_few (tree_found h builds).derives
+tree_few {result = Err f} h builds = tt
 
 -- where a token is wrong
 

@@ -1,5 +1,5 @@
 use Rattle.std.proofs.Common.{arith}
-use Rattle.hb_parser.proofs.ParsingLaws.{tree_found, tree_faults, tree_only, parsed_few, tree_refused, wrong_faults, wrong_only, wrong_refused}
+use Rattle.hb_parser.proofs.ParsingLaws.{tree_faults, tree_only, tree_few, tree_refused, wrong_faults, wrong_only, wrong_refused}
 use Rattle.hb_parser.proofs.parsing.parse.Goals as goal
 
 pub returns-in-Ok-Ok-clause-faults : goal.returns-in-Ok-Ok-clause-faults
@@ -21,4 +21,4 @@ pub returns-in-Ok-Err-clause-refused : goal.returns-in-Ok-Err-clause-refused
 returns-in-Ok-Err-clause-refused c = wrong_refused c.refused.result (rw (c.in-Ok-Err.field-0-is, c.as_slice.ensures) at c.in-Ok-Err.ensures) (c.refused.ensures.whole (omega arith))
 
 pub returns-in-Ok-Ok-clause-few : goal.returns-in-Ok-Ok-clause-few
-returns-in-Ok-Ok-clause-few c = parsed_few (tree_found (rw (c.in-Ok-Ok.field-0-is, c.as_slice.ensures) at c.in-Ok-Ok.ensures) (rw (c.as_slice-in-Ok-Ok.ensures) at c.shallow_program.ensures))
+returns-in-Ok-Ok-clause-few c = tree_few (rw (c.in-Ok-Ok.field-0-is, c.as_slice.ensures) at c.in-Ok-Ok.ensures) (rw (c.as_slice-in-Ok-Ok.ensures) at c.shallow_program.ensures)
