@@ -1,0 +1,3 @@
+pub mod LayingSteps
+pub mod JunkSteps
+pub mod FieldSteps
