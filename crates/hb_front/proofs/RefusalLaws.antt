@@ -20,9 +20,9 @@ IsIt refusal f = IfRefused (λ other. other ≡ refusal) f
 pub memory_is : {f : Fault} (refusal : Refusal) → f ≡ Memory → IsIt refusal f
 memory_is {f} refusal e = subst (IsIt refusal) (sym e) tt
 
-pub this_is : {refusal : Refusal} (f : Fault) → IsThisRefusal refusal (Err f) → IsIt refusal f
-this_is (Refused other) e = e
-this_is Memory e = tt
+pub this_is : (refusal : Refusal) (f : Fault) → IsThisRefusal refusal (Err f) → IsIt refusal f
+this_is refusal (Refused other) e = e
+this_is refusal Memory e = tt
 
 -- where the text is refused
 pub text_refused : {old : List (List ℕ)} {bytes : List ℕ} {f : Fault} → ((refusal : Refusal) → lexical.FirstFault bytes refusal → IsIt refusal f) → ((table : List (List ℕ)) (ts : List Token) → SpellsTokens old bytes table ts → f ≡ Memory) → (refusal : Refusal) → LayingFault old bytes refusal → IsIt refusal f

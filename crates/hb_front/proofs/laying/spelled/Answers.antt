@@ -18,7 +18,7 @@ returns-clause-only c table ts other =
 
 pub returns-in_err-tokens-clause-refused : goal.returns-in_err-tokens-clause-refused
 returns-in_err-tokens-clause-refused c refusal first =
-    let it = this_is c.in_err-tokens.field-0.0 (c.in_err-tokens.ensures.refused refusal first) in
+    let it = this_is refusal c.in_err-tokens.field-0.0 (c.in_err-tokens.ensures.refused refusal first) in
     search (rules, it)
 
 pub returns-clause-refused : goal.returns-clause-refused
