@@ -34,28 +34,28 @@ decided false h = refl
 pub right_not_left : (f g : Fixity) → goes_right f g ≡ true → goes_left f g ≡ false
 right_not_left f g h = decided (goes_left f g) (λ k. both f g (holds f.level g.level (is_right f.fix) (is_right g.fix) h) (holds g.level f.level (is_left f.fix) (is_left g.fix) k))
   where
-  both : (f g : Fixity) → Holds f.level g.level (is_right f.fix) (is_right g.fix) → Holds g.level f.level (is_left f.fix) (is_left g.fix) → ⊥
-  both f g (inl a) (inl b) = omega arith
-  both f g (inl a) (inr b) = omega (arith, b.0)
-  both f g (inr a) (inl b) = omega (arith, a.0)
-  both f g (inr a) (inr b) = one_side f.fix b.1 a.1
+    both : (f g : Fixity) → Holds f.level g.level (is_right f.fix) (is_right g.fix) → Holds g.level f.level (is_left f.fix) (is_left g.fix) → ⊥
+    both f g (inl a) (inl b) = omega arith
+    both f g (inl a) (inr b) = omega (arith, b.0)
+    both f g (inr a) (inl b) = omega (arith, a.0)
+    both f g (inr a) (inr b) = one_side f.fix b.1 a.1
 
 -- what stands right of an operator that goes left goes left too
 pub right_then_left : (a b c : Fixity) → goes_right a b ≡ true → goes_left a c ≡ true → goes_left b c ≡ true
 right_then_left a b c h k = made c.level b.level (is_left b.fix) (is_left c.fix) (both a b c (holds a.level b.level (is_right a.fix) (is_right b.fix) h) (holds c.level a.level (is_left a.fix) (is_left c.fix) k))
   where
-  both : (a b c : Fixity) → Holds a.level b.level (is_right a.fix) (is_right b.fix) → Holds c.level a.level (is_left a.fix) (is_left c.fix) → Holds c.level b.level (is_left b.fix) (is_left c.fix)
-  both a b c (inl p) (inl q) = inl (omega arith)
-  both a b c (inl p) (inr q) = inl (omega (arith, q.0))
-  both a b c (inr p) (inl q) = inl (omega (arith, p.0))
-  both a b c (inr p) (inr q) = absurd (one_side a.fix q.1 p.1)
+    both : (a b c : Fixity) → Holds a.level b.level (is_right a.fix) (is_right b.fix) → Holds c.level a.level (is_left a.fix) (is_left c.fix) → Holds c.level b.level (is_left b.fix) (is_left c.fix)
+    both a b c (inl p) (inl q) = inl (omega arith)
+    both a b c (inl p) (inr q) = inl (omega (arith, q.0))
+    both a b c (inr p) (inl q) = inl (omega (arith, p.0))
+    both a b c (inr p) (inr q) = absurd (one_side a.fix q.1 p.1)
 
 -- what goes left of an operator that stands right stands right too
 pub left_then_right : (a b c : Fixity) → goes_right a b ≡ true → goes_left c b ≡ true → goes_right a c ≡ true
 left_then_right a b c h k = made a.level c.level (is_right a.fix) (is_right c.fix) (both a b c (holds a.level b.level (is_right a.fix) (is_right b.fix) h) (holds b.level c.level (is_left c.fix) (is_left b.fix) k))
   where
-  both : (a b c : Fixity) → Holds a.level b.level (is_right a.fix) (is_right b.fix) → Holds b.level c.level (is_left c.fix) (is_left b.fix) → Holds a.level c.level (is_right a.fix) (is_right c.fix)
-  both a b c (inl p) (inl q) = inl (omega arith)
-  both a b c (inl p) (inr q) = inl (omega (arith, q.0))
-  both a b c (inr p) (inl q) = inl (omega (arith, p.0))
-  both a b c (inr p) (inr q) = absurd (one_side b.fix q.2 p.2)
+    both : (a b c : Fixity) → Holds a.level b.level (is_right a.fix) (is_right b.fix) → Holds b.level c.level (is_left c.fix) (is_left b.fix) → Holds a.level c.level (is_right a.fix) (is_right c.fix)
+    both a b c (inl p) (inl q) = inl (omega arith)
+    both a b c (inl p) (inr q) = inl (omega (arith, q.0))
+    both a b c (inr p) (inl q) = inl (omega (arith, p.0))
+    both a b c (inr p) (inr q) = absurd (one_side b.fix q.2 p.2)

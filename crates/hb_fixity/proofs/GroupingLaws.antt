@@ -121,7 +121,7 @@ grouped_tree first rest = ended Operation (reads Operation (start (Operand first
 complete : (first : Expr) (rest : List (Operator × Expr)) (t : OpTree) → Groups first rest t → grouped_tree first rest ≡ at [] t
 complete first rest t g =
     let e : reads Operation (start (Operand first)) (leaves rest) ≡ at (spine t []) (tip t) =
-        (λ i. reads Operation (start (Operand (sym g.begins i))) (leaves (sym g.goes_on i))) ∙ reads_tree t [] g.right tt in
+    (λ i. reads Operation (start (Operand (sym g.begins i))) (leaves (sym g.goes_on i))) ∙ reads_tree t [] g.right tt in
     ap (ended Operation) e ∙ ap (at []) (closed_all_spine t [])
 
 -- Below, what is read without a clash is a tree that is right.
@@ -142,10 +142,10 @@ fits_from (p ∷ s) op l r h = h
 
 joined : (p : OpTree × Operator) (s : List (OpTree × Operator)) (t : OpTree) → Good (p ∷ s) t → Good s (Operation p.1 p.0 t)
 joined p s t g = record {
-    is_good = g.is_good.3;
-    right = RightOperation p.1 p.0 t g.is_good.1 g.fits g.is_good.0 g.right;
-    fits = fits_from s p.1 p.0 t g.is_good.2
-  }
+  is_good = g.is_good.3;
+  right = RightOperation p.1 p.0 t g.is_good.1 g.fits g.is_good.0 g.right;
+  fits = fits_from s p.1 p.0 t g.is_good.2;
+}
 
 record GoodBefore (op : Operator) (s : List (OpTree × Operator)) (t : OpTree) : Type 0 where
   good : Good s t
@@ -155,10 +155,10 @@ closes_well : (op : Operator) (s : List (OpTree × Operator)) (t : OpTree) → G
 closes_well op [] t g h = record { good = g; left = h }
 closes_well op (p ∷ s) t g h = by_test (goes_left p.1.fixity op.fixity) refl (λ e. closes_well op s (Operation p.1 p.0 t) (joined p s t g) e)
   where
-  by_test : (b : Bool) → goes_left p.1.fixity op.fixity ≡ b → (goes_left p.1.fixity op.fixity ≡ true → GoodBefore op (kept op.fixity s) (closed Operation op.fixity s (Operation p.1 p.0 t)))
-      → GoodBefore op (cond b (kept op.fixity s) (p ∷ s)) (cond b (closed Operation op.fixity s (Operation p.1 p.0 t)) t)
-  by_test true e k = k e
-  by_test false e k = record { good = g; left = h }
+    by_test : (b : Bool) → goes_left p.1.fixity op.fixity ≡ b → (goes_left p.1.fixity op.fixity ≡ true → GoodBefore op (kept op.fixity s) (closed Operation op.fixity s (Operation p.1 p.0 t)))
+        → GoodBefore op (cond b (kept op.fixity s) (p ∷ s)) (cond b (closed Operation op.fixity s (Operation p.1 p.0 t)) t)
+    by_test true e k = k e
+    by_test false e k = record { good = g; left = h }
 
 all_closed : (s : List (OpTree × Operator)) (t : OpTree) → Good s t → IsRight (closed_all Operation s t)
 all_closed [] t g = g.right
@@ -172,10 +172,10 @@ closed_whole : (f : Fixity) (s : List (OpTree × Operator)) (t : OpTree) → who
 closed_whole f [] t = refl
 closed_whole f (p ∷ s) t = by_test (goes_left p.1.fixity f) (closed_whole f s (Operation p.1 p.0 t))
   where
-  by_test : (b : Bool) → whole (kept f s) (closed Operation f s (Operation p.1 p.0 t)) ≡ whole s (Operation p.1 p.0 t)
-      → whole (cond b (kept f s) (p ∷ s)) (cond b (closed Operation f s (Operation p.1 p.0 t)) t) ≡ whole s (Operation p.1 p.0 t)
-  by_test true k = k
-  by_test false k = refl
+    by_test : (b : Bool) → whole (kept f s) (closed Operation f s (Operation p.1 p.0 t)) ≡ whole s (Operation p.1 p.0 t)
+        → whole (cond b (kept f s) (p ∷ s)) (cond b (closed Operation f s (Operation p.1 p.0 t)) t) ≡ whole s (Operation p.1 p.0 t)
+    by_test true k = k
+    by_test false k = refl
 
 record Longer (t u : OpTree) (ps : List (Operator × Expr)) : Type 0 where
   begins : first_operand u ≡ first_operand t
@@ -197,11 +197,11 @@ record Read (first : Expr) (ps : List (Operator × Expr)) (s : State OpTree) : T
 
 read_start : (first : Expr) → Read first [] (start (Operand first))
 read_start first = record {
-    good = record { is_good = tt; right = RightOperand first; fits = tt };
-    leaf_now = (first, refl);
-    begins = refl;
-    goes_on = refl
-  }
+  good = record { is_good = tt; right = RightOperand first; fits = tt };
+  leaf_now = (first, refl);
+  begins = refl;
+  goes_on = refl;
+}
 
 fits_leaf : (op : Operator) (t : OpTree) (e : Expr) → t ≡ Operand e → fits_left op t ≡ true
 fits_leaf op t e h = ap (fits_left op) h
@@ -209,25 +209,25 @@ fits_leaf op t e h = ap (fits_left op) h
 good_push : (s : List (OpTree × Operator)) (t : OpTree) (op : Operator) (e : Expr) → GoodBefore op s t → clashes_on s op.fixity ≡ false → Good ((t, op) ∷ s) (Operand e)
 good_push s t op e h k = record { is_good = (h.good.right, h.left, no_clash_fits s k, h.good.is_good); right = RightOperand e; fits = refl }
   where
-  no_clash_fits : (s : List (OpTree × Operator)) → clashes_on s op.fixity ≡ false → FitsOperator s op
-  no_clash_fits [] k = tt
-  no_clash_fits (p ∷ s) k = negated (goes_right p.1.fixity op.fixity) k
-    where
-    negated : (b : Bool) → not b ≡ false → b ≡ true
-    negated true h = refl
-    negated false h = cc
+    no_clash_fits : (s : List (OpTree × Operator)) → clashes_on s op.fixity ≡ false → FitsOperator s op
+    no_clash_fits [] k = tt
+    no_clash_fits (p ∷ s) k = negated (goes_right p.1.fixity op.fixity) k
+      where
+        negated : (b : Bool) → not b ≡ false → b ≡ true
+        negated true h = refl
+        negated false h = cc
 
 read_put : (first : Expr) (ps : List (Operator × Expr)) (s : State OpTree) (op : Operator) (e : Expr) → Read first ps s → clashes_on (kept op.fixity s.open_ones) op.fixity ≡ false
     → Read first (ps ++ (op, e) ∷ []) (put Operation s op (Operand e))
 read_put first ps s op e r k =
     let t = closed Operation op.fixity s.open_ones s.now in
     let longer : Longer (whole (kept op.fixity s.open_ones) t) (whole (kept op.fixity s.open_ones) (Operation op t (Operand e))) ((op, e) ∷ []) =
-        whole_longer (kept op.fixity s.open_ones) t (Operation op t (Operand e)) ((op, e) ∷ []) (record { begins = refl; goes_on = refl }) in
+    whole_longer (kept op.fixity s.open_ones) t (Operation op t (Operand e)) ((op, e) ∷ []) (record { begins = refl; goes_on = refl }) in
     record {
       good = good_push (kept op.fixity s.open_ones) t op e (closes_well op s.open_ones s.now r.good (fits_leaf op s.now r.leaf_now.0 r.leaf_now.1)) k;
       leaf_now = (e, refl);
       begins = longer.begins ∙ ap first_operand (closed_whole op.fixity s.open_ones s.now) ∙ r.begins;
-      goes_on = longer.goes_on ∙ ap (λ x. others x ++ (op, e) ∷ []) (closed_whole op.fixity s.open_ones s.now) ∙ ap (λ x. x ++ (op, e) ∷ []) r.goes_on
+      goes_on = longer.goes_on ∙ ap (λ x. others x ++ (op, e) ∷ []) (closed_whole op.fixity s.open_ones s.now) ∙ ap (λ x. x ++ (op, e) ∷ []) r.goes_on;
     }
 
 read_groups : (first : Expr) (ps : List (Operator × Expr)) (s : State OpTree) → Read first ps s → Groups first ps (whole s.open_ones s.now)
@@ -247,52 +247,54 @@ record Sound (first : Expr) (before rest : List (Operator × Expr)) (s : State O
 sound_clash : (first : Expr) (before after : List (Operator × Expr)) (s : State OpTree) (op : Operator) (e : Expr) → Read first before s → s ≡ reads Operation (start (Operand first)) (leaves before) → s.clash ≡ None
     → clashes_on (kept op.fixity s.open_ones) op.fixity ≡ true → IsFirstClash first (before ++ (op, e) ∷ after) op
 sound_clash first before after s op e r h n k = record {
-    before = before;
-    operand = e;
-    after = after;
-    split = refl;
-    good_before = (whole s.open_ones s.now, read_groups first before s r);
-    none = λ t g. none_left (ap (λ x. x.clash) (complete first (before ++ (op, e) ∷ []) t g))
-  }
+  before = before;
+  operand = e;
+  after = after;
+  split = refl;
+  good_before = (whole s.open_ones s.now, read_groups first before s r);
+  none = λ t g. none_left (ap (λ x. x.clash) (complete first (before ++ (op, e) ∷ []) t g));
+}
   where
-  told : (reads Operation (start (Operand first)) (leaves (before ++ (op, e) ∷ []))).clash ≡ Some op
-  told = ap (λ x. (reads Operation (start (Operand first)) x).clash) (leaves_append before ((op, e) ∷ []))
-      ∙ ap (λ x. x.clash) (reads_append (start (Operand first)) (leaves before) (leaves ((op, e) ∷ [])))
-      ∙ ap (λ x. (put Operation x op (Operand e)).clash) (sym h)
-      ∙ (λ i. clash_of (n i) (k i) op)
-  none_left : (reads Operation (start (Operand first)) (leaves (before ++ (op, e) ∷ []))).clash ≡ None → ⊥
-  none_left e0 = let d : Some op ≡ None = sym told ∙ e0 in cc
+    told : (reads Operation (start (Operand first)) (leaves (before ++ (op, e) ∷ []))).clash ≡ Some op
+    told = ap (λ x. (reads Operation (start (Operand first)) x).clash) (leaves_append before ((op, e) ∷ []))
+        ∙ ap (λ x. x.clash) (reads_append (start (Operand first)) (leaves before) (leaves ((op, e) ∷ [])))
+        ∙ ap (λ x. (put Operation x op (Operand e)).clash) (sym h)
+        ∙ (λ i. clash_of (n i) (k i) op)
+
+    none_left : (reads Operation (start (Operand first)) (leaves (before ++ (op, e) ∷ []))).clash ≡ None → ⊥
+    none_left e0 = let d : Some op ≡ None = sym told ∙ e0 in cc
 
 sound : (first : Expr) (before rest : List (Operator × Expr)) (s : State OpTree) → Read first before s → s ≡ reads Operation (start (Operand first)) (leaves before) → s.clash ≡ None
     → Sound first before rest (reads Operation s (leaves rest))
 sound first before [] s r h n = record {
-    good = λ _. subst (λ x. Groups first x (whole s.open_ones s.now)) (sym (append-nil before)) (read_groups first before s r);
-    first_one = λ op e. let d : Some op ≡ None = sym e ∙ n in cc
-  }
+  good = λ _. subst (λ x. Groups first x (whole s.open_ones s.now)) (sym (append-nil before)) (read_groups first before s r);
+  first_one = λ op e. let d : Some op ≡ None = sym e ∙ n in cc;
+}
 sound first before (p ∷ rest) s r h n =
     by_test (clashes_on (kept p.0.fixity s.open_ones) p.0.fixity) refl
     (λ e. sound first (before ++ (p.0, p.1) ∷ []) rest (put Operation s p.0 (Operand p.1)) (read_put first before s p.0 p.1 r e)
-      (ap (λ x. put Operation x p.0 (Operand p.1)) h ∙ sym (reads_append (start (Operand first)) (leaves before) (leaves (p ∷ []))) ∙ ap (reads Operation (start (Operand first))) (sym (leaves_append before (p ∷ []))))
-      (λ j. clash_of (n j) (e j) p.0))
+    (ap (λ x. put Operation x p.0 (Operand p.1)) h ∙ sym (reads_append (start (Operand first)) (leaves before) (leaves (p ∷ []))) ∙ ap (reads Operation (start (Operand first))) (sym (leaves_append before (p ∷ []))))
+    (λ j. clash_of (n j) (e j) p.0))
   where
-  same_some : {x y : Operator} → Some x ≡ Some y → x ≡ y
-  same_some q = cc
-  by_test : (b : Bool) → clashes_on (kept p.0.fixity s.open_ones) p.0.fixity ≡ b
-      → (clashes_on (kept p.0.fixity s.open_ones) p.0.fixity ≡ false → Sound first (before ++ p ∷ []) rest (reads Operation (put Operation s p.0 (Operand p.1)) (leaves rest)))
-      → Sound first before (p ∷ rest) (reads Operation (put Operation s p.0 (Operand p.1)) (leaves rest))
-  by_test true e k =
-      let told : (reads Operation (put Operation s p.0 (Operand p.1)) (leaves rest)).clash ≡ Some p.0 = stays (put Operation s p.0 (Operand p.1)) p.0 (leaves rest) (λ i. clash_of (n i) (e i) p.0) in
-      record {
-        good = λ c. let d : Some p.0 ≡ None = sym told ∙ c in cc;
-        first_one = λ op c. let d : p.0 ≡ op = same_some (sym told ∙ c) in subst (λ x. IsFirstClash first (before ++ p ∷ rest) x) d (sound_clash first before rest s p.0 p.1 r h n e)
-      }
-  by_test false e k =
-      let i : Sound first (before ++ p ∷ []) rest (reads Operation (put Operation s p.0 (Operand p.1)) (leaves rest)) = k e in
-      let a : (before ++ p ∷ []) ++ rest ≡ before ++ p ∷ rest = append_assoc before (p ∷ []) rest in
-      record {
-        good = λ c. subst (λ x. Groups first x (whole (reads Operation (put Operation s p.0 (Operand p.1)) (leaves rest)).open_ones (reads Operation (put Operation s p.0 (Operand p.1)) (leaves rest)).now)) a (i.good c);
-        first_one = λ op c. subst (λ x. IsFirstClash first x op) a (i.first_one op c)
-      }
+    same_some : {x y : Operator} → Some x ≡ Some y → x ≡ y
+    same_some q = cc
+
+    by_test : (b : Bool) → clashes_on (kept p.0.fixity s.open_ones) p.0.fixity ≡ b
+        → (clashes_on (kept p.0.fixity s.open_ones) p.0.fixity ≡ false → Sound first (before ++ p ∷ []) rest (reads Operation (put Operation s p.0 (Operand p.1)) (leaves rest)))
+        → Sound first before (p ∷ rest) (reads Operation (put Operation s p.0 (Operand p.1)) (leaves rest))
+    by_test true e k =
+        let told : (reads Operation (put Operation s p.0 (Operand p.1)) (leaves rest)).clash ≡ Some p.0 = stays (put Operation s p.0 (Operand p.1)) p.0 (leaves rest) (λ i. clash_of (n i) (e i) p.0) in
+        record {
+          good = λ c. let d : Some p.0 ≡ None = sym told ∙ c in cc;
+          first_one = λ op c. let d : p.0 ≡ op = same_some (sym told ∙ c) in subst (λ x. IsFirstClash first (before ++ p ∷ rest) x) d (sound_clash first before rest s p.0 p.1 r h n e);
+        }
+    by_test false e k =
+        let i : Sound first (before ++ p ∷ []) rest (reads Operation (put Operation s p.0 (Operand p.1)) (leaves rest)) = k e in
+        let a : (before ++ p ∷ []) ++ rest ≡ before ++ p ∷ rest = append_assoc before (p ∷ []) rest in
+        record {
+          good = λ c. subst (λ x. Groups first x (whole (reads Operation (put Operation s p.0 (Operand p.1)) (leaves rest)).open_ones (reads Operation (put Operation s p.0 (Operand p.1)) (leaves rest)).now)) a (i.good c);
+          first_one = λ op c. subst (λ x. IsFirstClash first x op) a (i.first_one op c);
+        }
 
 -- Below, the reading of expressions is that of trees.
 
@@ -306,18 +308,18 @@ kept_seen : (f : Fixity) (s : List (OpTree × Operator)) → kept f (map seen s)
 kept_seen f [] = refl
 kept_seen f (p ∷ s) = by_test (goes_left p.1.fixity f) (kept_seen f s)
   where
-  by_test : (b : Bool) → kept f (map seen s) ≡ map seen (kept f s) → cond b (kept f (map seen s)) (seen p ∷ map seen s) ≡ map seen (cond b (kept f s) (p ∷ s))
-  by_test true k = k
-  by_test false k = refl
+    by_test : (b : Bool) → kept f (map seen s) ≡ map seen (kept f s) → cond b (kept f (map seen s)) (seen p ∷ map seen s) ≡ map seen (cond b (kept f s) (p ∷ s))
+    by_test true k = k
+    by_test false k = refl
 
 closed_seen : (f : Fixity) (s : List (OpTree × Operator)) (t : OpTree) → closed operator_applied f (map seen s) (expr_of t) ≡ expr_of (closed Operation f s t)
 closed_seen f [] t = refl
 closed_seen f (p ∷ s) t = by_test (goes_left p.1.fixity f) (closed_seen f s (Operation p.1 p.0 t))
   where
-  by_test : (b : Bool) → closed operator_applied f (map seen s) (operator_applied p.1 (expr_of p.0) (expr_of t)) ≡ expr_of (closed Operation f s (Operation p.1 p.0 t))
-      → cond b (closed operator_applied f (map seen s) (operator_applied p.1 (expr_of p.0) (expr_of t))) (expr_of t) ≡ expr_of (cond b (closed Operation f s (Operation p.1 p.0 t)) t)
-  by_test true k = k
-  by_test false k = refl
+    by_test : (b : Bool) → closed operator_applied f (map seen s) (operator_applied p.1 (expr_of p.0) (expr_of t)) ≡ expr_of (closed Operation f s (Operation p.1 p.0 t))
+        → cond b (closed operator_applied f (map seen s) (operator_applied p.1 (expr_of p.0) (expr_of t))) (expr_of t) ≡ expr_of (cond b (closed Operation f s (Operation p.1 p.0 t)) t)
+    by_test true k = k
+    by_test false k = refl
 
 closed_all_seen : (s : List (OpTree × Operator)) (t : OpTree) → closed_all operator_applied (map seen s) (expr_of t) ≡ expr_of (closed_all Operation s t)
 closed_all_seen [] t = refl

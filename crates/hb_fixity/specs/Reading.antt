@@ -35,10 +35,10 @@ clash_of None b op = if b then Some op else None
 
 abbrev pub put : {T : Type 0} → (Operator → T → T → T) → State T → Operator → T → State T
 put join s op next = record {
-    open_ones = (closed join op.fixity s.open_ones s.now, op) ∷ kept op.fixity s.open_ones;
-    now = next;
-    clash = clash_of s.clash (clashes_on (kept op.fixity s.open_ones) op.fixity) op
-  }
+  open_ones = (closed join op.fixity s.open_ones s.now, op) ∷ kept op.fixity s.open_ones;
+  now = next;
+  clash = clash_of s.clash (clashes_on (kept op.fixity s.open_ones) op.fixity) op;
+}
 
 abbrev pub reads : {T : Type 0} → (Operator → T → T → T) → State T → List (Operator × T) → State T
 reads join s [] = s

@@ -79,11 +79,7 @@ fn close(
 }
 
 /// Closes all open operators.
-fn close_all(
-    alloc: Global,
-    mut pending: Stack<(Expr, Operator)>,
-    now: Expr,
-) -> Result<Expr, Memory>
+fn close_all(alloc: Global, mut pending: Stack<(Expr, Operator)>, now: Expr) -> Result<Expr, Memory>
     ensures { IfOk result (λ e. e ≡ closed_all operator_applied pending now) }
 {
     match pending.pop() {
@@ -101,13 +97,7 @@ fn first_clash(known: Option<Operator>, clashes: bool, op: Operator) -> Option<O
 {
     match known {
         Some(first) => Some(first),
-        None => {
-            if clashes {
-                Some(op)
-            } else {
-                None
-            }
-        }
+        None => { if clashes { Some(op) } else { None } }
     }
 }
 
@@ -132,11 +122,7 @@ impl Reader {
     }
 
     /// Reads all of these, the top first.
-    fn read(
-        self,
-        alloc: Global,
-        mut rest: Stack<(Operator, Expr)>,
-    ) -> Result<Reader, Memory>
+    fn read(self, alloc: Global, mut rest: Stack<(Operator, Expr)>) -> Result<Reader, Memory>
         ensures { IfOk result (λ r. state_of r ≡ reads operator_applied (state_of self) rest) }
     {
         match rest.pop() {
@@ -150,11 +136,7 @@ impl Reader {
 }
 
 /// The tree that a run groups to: its first operand, and its operators, each with the operand behind it, the first on top.
-pub fn group(
-    alloc: Global,
-    first: Expr,
-    rest: Stack<(Operator, Expr)>,
-) -> Result<Grouped, Memory>
+pub fn group(alloc: Global, first: Expr, rest: Stack<(Operator, Expr)>) -> Result<Grouped, Memory>
     // What the run groups to, by the one tree that is right.
     ensures right { IfOk result (λ g. g.clash ≡ None → (t : OpTree) × Groups first rest t × (g.tree ≡ expr_of t)) }
     ensures only { IfOk result (λ g. (t : OpTree) → Groups first rest t → (g.clash ≡ None) × (g.tree ≡ expr_of t)) }
@@ -172,7 +154,11 @@ pub fn group(
         clash: None,
     };
     let reader = reader.read(alloc, rest)?;
-    let Reader { pending, now, clash } = reader;
+    let Reader {
+        pending,
+        now,
+        clash,
+    } = reader;
     let tree = close_all(alloc, pending, now)?;
     Ok(Grouped { tree, clash })
 }
