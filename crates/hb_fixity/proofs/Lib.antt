@@ -1,0 +1,2 @@
+pub mod FixityLaws
+pub mod GroupingLaws

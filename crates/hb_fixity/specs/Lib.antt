@@ -1,0 +1,3 @@
+pub mod Fixities
+pub mod Reading
+pub mod States

@@ -1,0 +1,5 @@
+pub mod Nodes
+pub mod Scopes
+pub mod Uses
+pub mod Things
+pub mod Kept
