@@ -1,0 +1,3 @@
+pub mod EngineLaw
+pub mod Through
+pub mod Model
