@@ -1,7 +1,7 @@
 //! The program: the top call over real files and standard output.
 #![tactic(auto)]
 
-ghost use Rattle.std.specs.Prelude.{◌≡◌};
+ghost use Rattle.std.specs.Prelude.{◌≡◌, [], ◌∷◌, ◌++◌, IfOk};
 ghost use Rattle.hb_top.specs.World.{shelved, printed, world};
 ghost use Rattle.habit.specs.Answering.{AnswersFor};
 
@@ -18,6 +18,15 @@ const NO_MEMORY: u8 = 12;
 /// The longest word that a system passes on is shorter.
 const LONGEST_WORD: usize = 262_144;
 
+/// Puts one more word, byte for byte, behind the others.
+fn put_word(alloc: Global, words: &mut List<Text>, word: &[u8]) -> Result<(), Memory>
+    ensures word { IfOk result (λ _. words.new ≡ words.old ++ word.now ∷ []) }
+{
+    let text = Text::of(Vec::from_slice(alloc, word)?);
+    words.push(text)?;
+    Ok(())
+}
+
 /// The words of the command line, byte for byte, without the program's own name.
 fn words(alloc: Global, rt: &impl Env) -> Result<List<Text>, Memory> {
     let mut buffer = vec![in alloc; 0u8; LONGEST_WORD]?;
@@ -28,7 +37,7 @@ fn words(alloc: Global, rt: &impl Env) -> Result<List<Text>, Memory> {
                 let Some(word) = buffer.get(..length) else {
                     return Err(Memory);
                 };
-                words.push(Text::of(Vec::from_slice(alloc, word)?))?;
+                put_word(alloc, &mut words, word)?;
             }
             Err(FillError::NotPresent) => break,
             Err(FillError::TooLong) => return Err(Memory),
