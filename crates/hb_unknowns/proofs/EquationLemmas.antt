@@ -19,9 +19,11 @@ use Rattle.hb_unknowns.specs.declared.order.Mark.TheVariants.{New}
 use Rattle.hb_unknowns.specs.declared.trail.Change.{Change}
 use Rattle.hb_unknowns.specs.Joined.{at, entry_at, level_at, free}
 use Rattle.hb_unknowns.specs.Graph.{Says, Within, Obeys, IsGraph, Agree, Unified, IsImpossible}
-use Rattle.hb_unknowns.specs.Order.{marked, Member, AllBelow, AreClear, IsReached}
+use Rattle.hb_unknowns.specs.Order.{marked, IsPart, Member, AllBelow, AreClear, IsReached}
+use Rattle.hb_unknowns.specs.Referred.{flag_at, AreReferred, AreRaised, IsHarmless}
 use Rattle.hb_unknowns.specs.Trail.{restored, written_places, AreInside, IsTracked}
 use Rattle.hb_unknowns.specs.Equations.{Equations, Solves, IsSound, IsOwn, IsPut, AreEqual, AreEquated, IsEquated, HaveNoSolution, HasNoSolution, IsTaken, equations, node_of}
+use Rattle.hb_unknowns.proofs.ReferredLemmas.{referred-taken}
 use Rattle.hb_unknowns.proofs.ValueLemmas.{obeys-same}
 use Rattle.hb_unknowns.proofs.SolvedLemmas.{AreKept, reached-solved}
 
@@ -54,6 +56,21 @@ taken-end true old new pending cs g solved t u r = record {
   solution = reached-solved old new (written_places cs) solved.0 g solved.1 (kept-of old new cs t) r;
 }
 taken-end false old new pending cs g solved t u r = λ v o a. r v ((u.same v).0 (o, a))
+
+-- equations that harm nothing
+pub taken-harmless : (old new : List Entry) (pending : List Pair) → (v : ℕ → Finite) × Obeys v old → Unified old pending new → IsHarmless old pending → IsTaken old pending new
+taken-harmless old new pending solved u h =
+    let now = h solved.0 solved.1 in
+    record {
+      graph = u.graph;
+      size = u.size;
+      same = u.same;
+      solution = (now.0, (u.same now.0).0 (now.1, now.2));
+    }
+
+pub referred-end : (old new : List Entry) (flags now : List Bool) (cs : List Change) → IsTracked old [] new cs → AreReferred old flags → AreRaised flags now →
+    ((k p : ℕ) → Member k (written_places cs) → IsPart p (at new k) → flag_at now p ≡ true) → AreReferred new now
+referred-end old new flags now cs t r h parts = referred-taken old new flags now (written_places cs) (kept-of old new cs t) t.size r h parts
 
 pub agree-equal : (s : ℕ → Finite) (types : List Ty) (pairs : List Pair) → Agree (values s types) pairs → AreEqual s types pairs
 agree-equal s types [] a = tt

@@ -1,6 +1,6 @@
 -- What the nodes of a graph are forced to be: a free node may be of any type.
-use Rattle.std.proofs.Common.{◌≡◌, ℕ, zero, suc, ◌+◌, ◌<◌, ◌≤◌, ◌⊎◌, inl, inr, List, [], ◌∷◌, ◌++◌, length, reverse, take, drop, get_or, set, Bool, true, false, ◌&&◌, MatchBool, sym, refl, ap, ◌∙◌, subst, arith, ⊎_elim, length-append, length-set, get_or-set_same, get_or-set_other, append_assoc}
-use Rattle.std.proofs.lemmas.List.{get_or_append_left, get_or_push, get_or_past, take_more, take_all, reverse-append}
+use Rattle.std.proofs.Common.{◌≡◌, ℕ, zero, suc, ◌+◌, ◌<◌, inl, inr, List, [], ◌∷◌, ◌++◌, length, reverse, take, drop, get_or, set, Bool, true, false, ◌&&◌, MatchBool, sym, refl, ap, ◌∙◌, subst, arith, ⊎_elim, length-append, length-set, get_or-set_same, get_or-set_other, append_assoc}
+use Rattle.std.proofs.lemmas.List.{get_or_append_left, get_or_push, take_more, take_all, reverse-append}
 use Rattle.std.proofs.lemmas.Bool.{cases_eq, cases_lt}
 use Rattle.hb_types.specs.declared.atom.Atom.{Atom}
 use Rattle.hb_types.specs.declared.atom.Atom.TheVariants as atom
@@ -21,7 +21,7 @@ use Rattle.hb_unknowns.specs.Full.{IsOpen, IsFound, AreFound, IsOrder, Extends, 
 use Rattle.hb_unknowns.specs.Equations.{Equations, IsSound, equations}
 use Rattle.hb_unknowns.proofs.EquationLemmas.{solves-of}
 use Rattle.hb_unknowns.proofs.SolvedLemmas.{rank, rank-part}
-use Rattle.hb_unknowns.proofs.OrderLemmas.{member-push, member-reverse, below-at, below-reverse, part-inside}
+use Rattle.hb_unknowns.proofs.OrderLemmas.{member-push, member-reverse, below-at}
 
 -- the type of a node from those of its parts, with the given one where it is free
 filled : (ℕ → Finite) → ℕ → (ℕ → Finite) → Node → Finite

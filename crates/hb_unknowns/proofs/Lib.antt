@@ -3,6 +3,7 @@ pub mod FullLemmas
 pub mod GraphLemmas
 pub mod NodeLemmas
 pub mod OrderLemmas
+pub mod ReferredLemmas
 pub mod SolvedLemmas
 pub mod TrailLemmas
 pub mod ValueLemmas

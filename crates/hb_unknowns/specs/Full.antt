@@ -7,8 +7,7 @@ use Rattle.hb_types.specs.Instance.{instance, EachUnknown, IsKnown}
 use Rattle.hb_unknowns.specs.declared.node.Entry.{Entry}
 use Rattle.hb_unknowns.specs.declared.full.Found.{Found}
 use Rattle.hb_unknowns.specs.Graph.{Obeys}
-use Rattle.hb_unknowns.specs.Order.{IsPart, Member, AreSorted, AllBelow}
-use Rattle.hb_unknowns.specs.Joined.{at}
+use Rattle.hb_unknowns.specs.Order.{Member, AreSorted, AllBelow}
 use Rattle.hb_unknowns.specs.Equations.{Equations, Solves, type_count}
 
 -- all that make the equations true give the unknown k one and the same type

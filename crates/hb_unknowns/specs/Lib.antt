@@ -4,4 +4,5 @@ pub mod Full
 pub mod Graph
 pub mod Joined
 pub mod Order
+pub mod Referred
 pub mod Trail

@@ -7,6 +7,7 @@ mod full;
 mod graph;
 mod node;
 mod order;
+mod referred;
 mod taking;
 #[cfg(test)]
 mod tests;

@@ -10,6 +10,7 @@ use crate::error::EquateError;
 use crate::full::{FullTypes, replace_all};
 use crate::node::{Entry, Node, Pair};
 use crate::order::Mark;
+use crate::referred::refer;
 use crate::taking::take_in;
 use hb_base::{List, Memory};
 use hb_types::{Atom, Form, Kind, Types};
@@ -26,11 +27,14 @@ pub struct Unknowns {
     types: Types,
     entries: Vec<Entry>,
     marks: Vec<Mark>,
+    /// Of which nodes others speak, or may have spoken.
+    referred: Vec<bool>,
 }
 
 impl Model for Unknowns {
     ghost use Rattle.hb_types.specs.TypeCodes.{coded_types};
     ghost use Rattle.hb_unknowns.specs.Order.{AreClear};
+    ghost use Rattle.hb_unknowns.specs.Referred.{AreReferred};
     ghost use Rattle.hb_unknowns.specs.Equations.{Equations, IsSound, equations};
 
     ghost Value = { Equations };
@@ -41,7 +45,7 @@ impl Model for Unknowns {
 
     ghost view = { λ u. equations u.types u.entries.items };
 
-    ghost invariant = { λ u. IsSound (equations u.types u.entries.items) × AreClear u.entries.items u.marks.items };
+    ghost invariant = { λ u. IsSound (equations u.types u.entries.items) × AreClear u.entries.items u.marks.items × AreReferred u.entries.items u.referred.items };
 }
 
 /// What the graph knows of a type at first.
@@ -66,6 +70,7 @@ impl Unknowns {
             types: Types::new(alloc),
             entries: Vec::new(alloc),
             marks: Vec::new(alloc),
+            referred: Vec::new(alloc),
         }
     }
 
@@ -94,11 +99,23 @@ impl Unknowns {
                 return Err(Memory);
             }
         }
+        match self.referred.push(false) {
+            Ok(()) => {}
+            Err(_) => {
+                let _ = self.entries.pop();
+                let _ = self.marks.pop();
+                return Err(Memory);
+            }
+        }
         match self.types.push(form) {
-            Ok(place) => Ok(place),
+            Ok(place) => {
+                refer(&mut self.referred, entry.node);
+                Ok(place)
+            }
             Err(memory) => {
                 let _ = self.entries.pop();
                 let _ = self.marks.pop();
+                let _ = self.referred.pop();
                 Err(memory)
             }
         }
@@ -150,7 +167,13 @@ impl Unknowns {
             Ok(()) => {}
             Err(_) => return Err(EquateError::Memory),
         }
-        match take_in(self.alloc, &mut self.entries, &mut self.marks, &mut pending) {
+        match take_in(
+            self.alloc,
+            &mut self.entries,
+            &mut self.marks,
+            &mut self.referred,
+            &mut pending,
+        ) {
             Ok(true) => Ok(()),
             Ok(false) => Err(EquateError::Clash),
             Err(_) => Err(EquateError::Memory),
@@ -168,7 +191,13 @@ impl Unknowns {
         let Ok(mut pending) = Vec::from_slice(self.alloc, pairs) else {
             return Err(EquateError::Memory);
         };
-        match take_in(self.alloc, &mut self.entries, &mut self.marks, &mut pending) {
+        match take_in(
+            self.alloc,
+            &mut self.entries,
+            &mut self.marks,
+            &mut self.referred,
+            &mut pending,
+        ) {
             Ok(true) => Ok(()),
             Ok(false) => Err(EquateError::Clash),
             Err(_) => Err(EquateError::Memory),

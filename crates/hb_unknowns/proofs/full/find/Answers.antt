@@ -1,7 +1,5 @@
-use Rattle.std.proofs.Common.{◌≡◌, sym, ◌∙◌, inl, inr, refl}
+use Rattle.std.proofs.Common.{◌≡◌, sym, ◌∙◌}
 use Rattle.hb_unknowns.specs.Joined.{at}
-use Rattle.hb_unknowns.specs.Order.{IsPart}
-use Rattle.hb_unknowns.specs.Full.{IsFound, found_at}
 use Rattle.hb_unknowns.specs.declared.node.Node.TheVariants.{Free, Link, Apply}
 use Rattle.hb_unknowns.proofs.FullLemmas.{found-free, found-link, found-apply, part-link, part-left, part-right}
 use Rattle.hb_unknowns.proofs.full.find.Goals as goal

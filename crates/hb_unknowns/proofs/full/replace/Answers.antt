@@ -1,4 +1,4 @@
-use Rattle.std.proofs.Common.{◌≡◌, ◌<◌, length, get_or, sym, ◌∙◌, refl, arith}
+use Rattle.std.proofs.Common.{◌<◌, length, get_or, refl, arith}
 use Rattle.hb_types.specs.Types as tree
 use Rattle.hb_types.specs.Tables.{type_at}
 use Rattle.hb_unknowns.specs.Equations.{equations}

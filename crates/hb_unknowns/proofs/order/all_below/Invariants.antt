@@ -1,4 +1,4 @@
-use Rattle.std.proofs.Common.{ℕ, ◌<◌, ◌≤◌}
+use Rattle.std.proofs.Common.{ℕ, ◌<◌}
 use Rattle.hb_unknowns.specs.Order.{AllBelow, Member}
 use Rattle.hb_unknowns.proofs.order.all_below.Given as goal
 
