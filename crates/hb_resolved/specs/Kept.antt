@@ -1,14 +1,12 @@
 -- What a resolved program keeps.
-use Rattle.std.specs.Prelude.{◌≡◌, ℕ, Bool, true, false, ◌&&◌, List, [], ◌∷◌, ◌++◌, length, map, Option, Some, None, All, IsTrue}
+use Rattle.std.specs.Prelude.{◌≡◌, Bool, true, false, ◌&&◌, [], ◌++◌, length, map, Some, All, IsTrue}
 use Rattle.std.specs.List.{range_with_len}
 use Rattle.hb_base.specs.declared.name.Name.{Name}
-use Rattle.hb_tree.specs.declared.types.NameAt.{NameAt}
-use Rattle.hb_tree.specs.Expressions.{Expr, AnExpr, ExprKind, Var, Con, Number, Bits, Unit, Apply, Run, Lambda, Let, If, Case, Do, Select, Build, Update, Pair, Exprs, FieldExprs, NoFieldExprs, MoreFieldExprs, Alts, NoAlts, MoreAlts, Stmts, NoStmts, TakeThen, LetThen, DoThen, Binds, NoBinds, MoreBinds, Equations, NoEquations, MoreEquations}
+use Rattle.hb_tree.specs.Expressions.{Expr, AnExpr, ExprKind, Var, Con, Number, Bits, Unit, Apply, Run, Lambda, Let, If, Case, Do, Select, Build, Update, Pair, FieldExprs, NoFieldExprs, MoreFieldExprs, Alts, NoAlts, MoreAlts, Stmts, NoStmts, TakeThen, LetThen, DoThen, Binds, NoBinds, MoreBinds, Equations, NoEquations, MoreEquations}
 use Rattle.hb_tree.specs.ExpressionViews.{binds, equations}
 use Rattle.hb_tree.specs.Initials.{InitExpr, Each, Fields, Cell, FieldInits, NoFieldInits, MoreFieldInits}
 use Rattle.hb_tree.specs.declared.declaration.Decl.{Decl}
 use Rattle.hb_tree.specs.declared.declaration.Decl.TheVariants as decl
-use Rattle.hb_resolved.specs.declared.resolved.Target.{Target}
 use Rattle.hb_resolved.specs.declared.resolved.Target.TheVariants as target
 use Rattle.hb_resolved.specs.declared.resolved.Use.{Use}
 use Rattle.hb_resolved.specs.declared.resolved.Resolved.{Resolved}
@@ -64,9 +62,9 @@ abbrev mutual
 
 abbrev mutual
   pub is_init_settled : InitExpr → Bool
-  is_init_settled (Each name i) = is_init_settled i
-  is_init_settled (Fields fs) = are_inits_settled fs
-  is_init_settled (Cell first e) = is_settled e
+  is_init_settled (Each place name i) = is_init_settled i
+  is_init_settled (Fields place fs) = are_inits_settled fs
+  is_init_settled (Cell place e) = is_settled e
 
   pub are_inits_settled : FieldInits → Bool
   are_inits_settled NoFieldInits = true

@@ -1,6 +1,6 @@
 -- The numbers of a tree's nodes in node order: parts come before the whole, a head before its arguments, the rest from left
 -- to right, and declarations in text order.
-use Rattle.std.specs.Prelude.{ℕ, List, [], ◌∷◌, ◌++◌, Option, Some, None}
+use Rattle.std.specs.Prelude.{ℕ, List, [], ◌∷◌, ◌++◌, Some}
 use Rattle.hb_tree.specs.Patterns as pattern
 use Rattle.hb_tree.specs.Patterns.{Pat, APat, PatKind, Pats, NoPats, MorePats, FieldPats, NoFieldPats, MoreFieldPats}
 use Rattle.hb_tree.specs.Expressions.{Expr, AnExpr, ExprKind, Var, Con, Number, Bits, Unit, Apply, Run, Lambda, Let, If, Case, Do, Select, Build, Update, Pair, Exprs, NoExprs, MoreExprs, FieldExprs, NoFieldExprs, MoreFieldExprs, Alts, NoAlts, MoreAlts, Stmts, NoStmts, TakeThen, LetThen, DoThen, Binds, NoBinds, MoreBinds, Equations, NoEquations, MoreEquations}
@@ -86,9 +86,9 @@ abbrev mutual
 
 abbrev mutual
   pub init_nodes : InitExpr → List ℕ
-  init_nodes (Each name i) = init_nodes i
-  init_nodes (Fields fs) = field_inits_nodes fs
-  init_nodes (Cell first e) = expr_nodes e
+  init_nodes (Each place name i) = init_nodes i
+  init_nodes (Fields place fs) = field_inits_nodes fs
+  init_nodes (Cell place e) = expr_nodes e
 
   pub field_inits_nodes : FieldInits → List ℕ
   field_inits_nodes NoFieldInits = []

@@ -1,5 +1,5 @@
 -- What a program declares, in text order, and what its names mean at the top.
-use Rattle.std.specs.Prelude.{◌≡◌, ℕ, ◌+◌, ◌<◌, Bool, true, false, List, [], ◌∷◌, ◌++◌, map, nat_eq, if◌then◌else◌}
+use Rattle.std.specs.Prelude.{◌≡◌, ℕ, ◌+◌, ◌<◌, List, [], ◌∷◌, ◌++◌, map, nat_eq, if◌then◌else◌}
 use Rattle.std.specs.List.{list_any, range_with_len}
 use Rattle.hb_base.specs.declared.name.Name.{Name}
 use Rattle.hb_tree.specs.declared.types.NameAt.{NameAt}

@@ -1,5 +1,5 @@
 -- What each node uses, in node order: the name that stands there, and what it means.
-use Rattle.std.specs.Prelude.{ℕ, ◌+◌, Bool, true, false, List, [], ◌∷◌, ◌++◌, Option, Some, None, if◌then◌else◌}
+use Rattle.std.specs.Prelude.{ℕ, ◌+◌, Bool, true, false, List, [], ◌∷◌, ◌++◌, Some, None, if◌then◌else◌}
 use Rattle.hb_base.specs.declared.name.Name.{Name}
 use Rattle.hb_base.specs.declared.place.Place.{Place}
 use Rattle.hb_tree.specs.Patterns as pattern
@@ -9,7 +9,6 @@ use Rattle.hb_tree.specs.ExpressionViews.{binds, equations}
 use Rattle.hb_tree.specs.Initials.{InitExpr, Each, Fields, Cell, FieldInits, NoFieldInits, MoreFieldInits}
 use Rattle.hb_tree.specs.declared.declaration.Decl.{Decl}
 use Rattle.hb_tree.specs.declared.declaration.Decl.TheVariants as decl
-use Rattle.hb_resolved.specs.declared.resolved.Target.{Target}
 use Rattle.hb_resolved.specs.declared.resolved.Target.TheVariants as target
 use Rattle.hb_resolved.specs.declared.resolved.Use.{Use}
 use Rattle.hb_resolved.specs.Scopes.{Scope, meaning, within, without, pat_binders, row_binders, block_binders, group_binders, number_of, is_function}
@@ -137,9 +136,9 @@ abbrev mutual
 -- how many names `each` binds in an initialiser
 abbrev mutual
   pub each_count : InitExpr → ℕ
-  each_count (Each name i) = each_count i + 1
-  each_count (Fields fs) = fields_each_count fs
-  each_count (Cell first e) = 0
+  each_count (Each place name i) = each_count i + 1
+  each_count (Fields place fs) = fields_each_count fs
+  each_count (Cell place e) = 0
 
   pub fields_each_count : FieldInits → ℕ
   fields_each_count NoFieldInits = 0
@@ -148,9 +147,9 @@ abbrev mutual
 -- an initialiser: the name of an `each` is known in it, and has the next number
 abbrev mutual
   pub init_uses : ℕ → Scope → InitExpr → List Use
-  init_uses next s (Each name i) = init_uses (next + 1) (within s (record { place = name.place; name = name.name; number = next } ∷ [])) i
-  init_uses next s (Fields fs) = field_inits_uses next s fs
-  init_uses next s (Cell first e) = expr_uses s e
+  init_uses next s (Each place name i) = init_uses (next + 1) (within s (record { place = name.place; name = name.name; number = next } ∷ [])) i
+  init_uses next s (Fields place fs) = field_inits_uses next s fs
+  init_uses next s (Cell place e) = expr_uses s e
 
   pub field_inits_uses : ℕ → Scope → FieldInits → List Use
   field_inits_uses next s NoFieldInits = []
