@@ -3,6 +3,8 @@
 
 mod fixity;
 mod grouping;
+#[cfg(test)]
+mod tests;
 
 pub use fixity::{Fixity, Operator};
 pub use grouping::{Grouped, group};
