@@ -1,0 +1,14 @@
+pub mod Checked
+pub mod LeafExpr
+pub mod TableLaws
+pub mod Fits
+pub mod Turns
+pub mod Finishes
+pub mod Reading
+pub mod ReadingLists
+pub mod ReadingDecls
+pub mod ReadingParts
+pub mod ReadingFixity
+pub mod ReadingInits
+pub mod ReadingArea
+pub mod ReadingLines
