@@ -3,6 +3,7 @@ ghost use Rattle.hb_unknowns.specs.Equations.{type_count};
 
 use crate::error::EquateError;
 use crate::full::FullTypes;
+use crate::node::Pair;
 use crate::unknowns::Unknowns;
 use hb_base::Memory;
 use hb_types::{Atom, Form, Kind};
@@ -157,4 +158,25 @@ fn form_of(full: &FullTypes, place: usize) -> Option<Form> {
     } else {
         None
     }
+}
+
+#[test]
+fn many_equations_are_taken_at_once_or_none(rt: HostRuntime) -> Result<(), Fail> {
+    let mut all = unknowns(rt.alloc(), 2)?;
+    let one = all.leaf(Atom::Con(1))?;
+    let two = all.leaf(Atom::Con(2))?;
+    let same = Pair { left: 0, right: 1 };
+    let first = Pair {
+        left: 0,
+        right: one,
+    };
+    let second = Pair {
+        left: 1,
+        right: two,
+    };
+    let clash = all.equate_all([same, first, second].as_slice());
+    assert!(rt; matches!(clash, Err(EquateError::Clash)));
+    let good = all.equate_all([first, second].as_slice());
+    assert!(rt; matches!(good, Ok(())));
+    Ok(())
 }
