@@ -1,4 +1,6 @@
-use crate::{BitForm, BitLayout, ConForm, PartForm};
+ghost use Rattle.std.specs.Prelude.{◌≡◌, ◌<◌, ◌≤◌, ◌^◌, IsTrue, map};
+
+use crate::{BitForm, BitLayout, ConForm, FieldPlace, PartForm};
 use hb_base::{Code, Fault, List, Name, Place};
 use hb_bits::Pattern;
 use std::alloc::{AllocError, Global};
@@ -90,6 +92,117 @@ fn byte(word: u64) -> Option<Pattern> {
     } else {
         None
     }
+}
+
+/// The pattern of this width whose bits spell the number.
+fn bits(width: u32, word: u64) -> Pattern
+    requires narrow { width ≤ 64 }
+    requires in_range { word < 2 ^ width }
+    ensures { result.width ≡ width }
+{
+    Pattern { width, word }
+}
+
+/// Whether the parts are as wide as the fields.
+fn are_as_wide(fields: &[FieldPlace], parts: &[Pattern]) -> bool
+    ensures { IsTrue result → map (λ part. part.width) parts.now ≡ map (λ field. field.width) fields.now }
+{
+    match (fields.split_first(), parts.split_first()) {
+        (None, None) => true,
+        (Some((field, lower)), Some((part, rest))) => {
+            part.width == field.width && are_as_wide(lower, rest)
+        },
+        _ => false,
+    }
+}
+
+/// What `build` gives; `None` where the layout has no such constructor or the parts do not fit its fields.
+fn built(layout: &BitLayout, con: u32, parts: &[Pattern]) -> Option<Pattern> {
+    let found = layout.cons.as_slice().get(con as usize)?;
+    if are_as_wide(found.fields.as_slice(), parts) {
+        Some(layout.build(con, parts))
+    } else {
+        None
+    }
+}
+
+/// What `select` gives; `None` where the layout has no such field, or another width than the pattern.
+fn selected(layout: &BitLayout, con: u32, field: u32, value: Pattern) -> Option<Pattern> {
+    let found = layout.cons.as_slice().get(con as usize)?;
+    let _place = found.fields.as_slice().get(field as usize)?;
+    if value.width == layout.width {
+        Some(layout.select(con, field, value))
+    } else {
+        None
+    }
+}
+
+/// What `update` gives; `None` where the layout has no such field, or a width is another.
+fn updated(
+    layout: &BitLayout,
+    con: u32,
+    field: u32,
+    value: Pattern,
+    part: Pattern,
+) -> Option<Pattern> {
+    let found = layout.cons.as_slice().get(con as usize)?;
+    let place = found.fields.as_slice().get(field as usize)?;
+    if value.width == layout.width && part.width == place.width {
+        Some(layout.update(con, field, value, part))
+    } else {
+        None
+    }
+}
+
+#[test]
+fn op_is_built_selected_and_updated(rt: HostRuntime) -> Result<(), Fail> {
+    let layout = laid_out(&rt, rt.alloc(), &op(rt.alloc())?);
+    let load = bits(8, 0b0110_0101);
+    assert_eq!(rt; built(&layout, 0, &[bits(6, 0b10_0101)]), Some(load));
+    assert_eq!(rt; selected(&layout, 0, 0, load), Some(bits(6, 0b10_0101)));
+    assert_eq!(rt;
+        updated(&layout, 0, 0, load, bits(6, 0b00_0011)),
+        byte(0b0100_0011)
+    );
+    let any = bits(8, 0b1101_0010);
+    assert_eq!(rt; built(&layout, 1, &[any]), Some(any));
+    assert_eq!(rt; selected(&layout, 1, 0, any), Some(any));
+    assert_eq!(rt; updated(&layout, 1, 0, any, load), Some(load));
+    Ok(())
+}
+
+#[test]
+fn status_is_built_selected_and_updated(rt: HostRuntime) -> Result<(), Fail> {
+    let layout = laid_out(&rt, rt.alloc(), &status(rt.alloc())?);
+    let (no, yes) = (bits(1, 0), bits(1, 1));
+    let idle = bits(8, 0b0000_0010);
+    assert_eq!(rt; built(&layout, 0, &[yes, no]), Some(idle));
+    assert_eq!(rt; built(&layout, 0, &[no, yes]), byte(0b0000_0001));
+    assert_eq!(rt; selected(&layout, 0, 0, idle), Some(yes));
+    assert_eq!(rt; selected(&layout, 0, 1, idle), Some(no));
+    assert_eq!(rt; updated(&layout, 0, 1, idle, yes), byte(0b0000_0011));
+    assert_eq!(rt; updated(&layout, 0, 0, idle, no), byte(0));
+    Ok(())
+}
+
+#[test]
+fn the_first_field_has_the_most_significant_bits(rt: HostRuntime) -> Result<(), Fail> {
+    let alloc = rt.alloc();
+    let parts = vec![in alloc; field(11, 1, 3), PartForm::Tag(2, 0b10), field(12, 2, 11)]?;
+    let cons = vec![in alloc; con(1, at(1), parts)]?;
+    let layout = laid_out(&rt, alloc, &form(None, cons));
+    let whole = bits(16, 0b1011_0000_0000_0011);
+    assert_eq!(rt;
+        built(&layout, 0, &[bits(3, 0b101), bits(11, 0b11)]),
+        Some(whole)
+    );
+    assert_eq!(rt; selected(&layout, 0, 0, whole), Some(bits(3, 0b101)));
+    assert_eq!(rt; selected(&layout, 0, 1, whole), Some(bits(11, 0b11)));
+    assert_eq!(rt;
+        updated(&layout, 0, 0, whole, bits(3, 0b010)),
+        Some(bits(16, 0b0101_0000_0000_0011))
+    );
+    Ok(())
 }
 
 #[test]
