@@ -184,7 +184,7 @@ start_ended l s p n is b k = by_run ((leaf_known l).exact.alive at_start)
 
 -- the head of a class
 
-still_names : (c : Option ContextReader) (k : ℕ) (out : Out) → still_class c (heading.Names k out) ≡ Some (turn_to (reads_class c (heading.Names k out) ∷ []) [])
+pub still_names : (c : Option ContextReader) (k : ℕ) (out : Out) → still_class c (heading.Names k out) ≡ Some (turn_to (reads_class c (heading.Names k out) ∷ []) [])
 still_names None k out = refl
 still_names (Some s) k out = refl
 
@@ -197,7 +197,7 @@ a_var_token = some_token (token.VarId pad)
 abbrev a_name : NameAt
 a_name = record { place = record { line = 0; col = 0 }; name = pad }
 
-names_nothing : (k : ℕ) (out : Out) → class_nothing (heading.Names (k + 1) out) ≡ Some (no_context ++ (out ++ node.Names (suc k) ∷ []))
+pub names_nothing : (k : ℕ) (out : Out) → class_nothing (heading.Names (k + 1) out) ≡ Some (no_context ++ (out ++ node.Names (suc k) ∷ []))
 names_nothing k out = let e : k + 1 ≡ suc k = omega arith in ap (λ m. class_nothing (heading.Names m out)) e
 
 names_ended : (c : Option ContextReader) (k : ℕ) (out : Out) → Ended (reads_class c (heading.Names k out) ∷ [])

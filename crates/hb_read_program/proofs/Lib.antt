@@ -12,3 +12,12 @@ pub mod ReadingFixity
 pub mod ReadingInits
 pub mod ReadingArea
 pub mod ReadingLines
+pub mod ReadingFields
+pub mod ReadingBits
+pub mod ReadingStructs
+pub mod ReadingPorts
+pub mod ReadingSides
+pub mod ReadingSigs
+pub mod ReadingClasses
+pub mod ReadingInstances
+pub mod ReadingPrograms

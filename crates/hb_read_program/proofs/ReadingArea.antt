@@ -23,7 +23,7 @@ use Rattle.hb_read_program.proofs.ReadingDecls.{DeclPuts}
 use Rattle.hb_read_program.proofs.ReadingParts.{type_read, align_read}
 use Rattle.hb_read_program.proofs.ReadingInits.{start_read}
 
-four_closed : (a b c d e ms : Out) → a ++ (b ++ (c ++ (d ++ (e ++ ms)))) ≡ ((a ++ (b ++ (c ++ d))) ++ e) ++ ms
+pub four_closed : (a b c d e ms : Out) → a ++ (b ++ (c ++ (d ++ (e ++ ms)))) ≡ ((a ++ (b ++ (c ++ d))) ++ e) ++ ms
 four_closed a b c d e ms =
     sym (append_assoc (a ++ (b ++ (c ++ d))) e ms ∙ (append_assoc a (b ++ (c ++ d)) (e ++ ms) ∙ ap (λ xs. a ++ xs) (append_assoc b (c ++ d) (e ++ ms) ∙ ap (λ xs. b ++ xs) (append_assoc c d (e ++ ms)))))
 

@@ -29,7 +29,7 @@ use Rattle.hb_read_program.proofs.Reading.{by_head, by_nothing, a_con, a_word, m
 use Rattle.hb_read_program.proofs.ReadingLists.{found_at, Puts, things_read, name_read, data_cons_read}
 
 -- sep(name, ",")
-names_of_name : Puts symbol.Name NameRead named
+pub names_of_name : Puts symbol.Name NameRead named
 names_of_name p n ts us a h = name_read p n h
 
 pub names_read : (p q : Place) (n : ℕ) {ts us : List Token} {ns : List NameAt} → ReadsNames ts ns us → Rows (waits symbol.Name p n ∷ waits (symbol.More things.Names) q 1 ∷ []) ts (names_of ns) us
@@ -39,7 +39,7 @@ names_read p q n h = things_read things.Names named (λ t e. mark_fits 44 t e) n
 abbrev pub DeclPuts : Decl → List Token → List Token → Type 0
 DeclPuts d ts us = (p : Place) (n : ℕ) (ms : Out) (vs : List Token) → ((q : Place) → Rows (waits symbol.AfterTop q (n + 1) ∷ []) us ms vs) → Rows (waits symbol.Tops p n ∷ []) ts (decl_nodes d ++ ms) vs
 
-three_closed : (a b c d ms : Out) → a ++ (b ++ (c ++ (d ++ ms))) ≡ ((a ++ (b ++ c)) ++ d) ++ ms
+pub three_closed : (a b c d ms : Out) → a ++ (b ++ (c ++ (d ++ ms))) ≡ ((a ++ (b ++ c)) ++ d) ++ ms
 three_closed a b c d ms = sym (append_assoc (a ++ (b ++ c)) d ms ∙ (append_assoc a (b ++ c) (d ++ ms) ∙ ap (λ xs. a ++ xs) (append_assoc b c (d ++ ms))))
 
 none_plus : (n : ℕ) → 0 + n ≡ n

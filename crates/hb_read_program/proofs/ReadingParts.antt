@@ -59,14 +59,3 @@ infix_puts p n ts us a h = infix_read p n h
 
 pub infixes_read : (p q : Place) (n : ℕ) {ts us : List Token} {ns : List NameAt} → ReadsInfixes ts ns us → Rows (waits symbol.Infix p n ∷ waits (symbol.More things.Infixes) q 1 ∷ []) ts (names_of ns) us
 infixes_read p q n h = things_read things.Infixes named (λ t e. mark_fits 44 t e) infix_puts p q n (head_of (infixes_back h))
-
--- sep(varid, ",") "::" type
-
-var_row : (p : Place) (n : ℕ) {ts us : List Token} {a : NameAt} → VarRead ts a us → Rows (waits (symbol.One kind.Var put.Name) p n ∷ []) ts (named a) us
-var_row p n (var_read e) = a_var p n e
-
-var_puts : Puts (symbol.One kind.Var put.Name) VarRead named
-var_puts p n ts us a h = var_row p n h
-
-fields_assoc : (a b c : Out) → a ++ (b ++ (c ++ [])) ≡ a ++ (b ++ c)
-fields_assoc a b c = ap (λ xs. a ++ (b ++ xs)) (append_none c)

@@ -40,7 +40,7 @@ eq_first t e = from_some (some_place (an_eq.move an_eq.start t) e)
     from_some : (r : State) × (an_eq.move an_eq.start t ≡ Some r) → member (code t) equation_codes ≡ true
     from_some (r, d) = (leaf_known leaf.Equation).begins d
 
-line_first : (t : Token) (n : ATurn) → LineTurn (Some an_eq.start) side_start t n → member (code t) equation_codes ≡ true
+pub line_first : (t : Token) (n : ATurn) → LineTurn (Some an_eq.start) side_start t n → member (code t) equation_codes ≡ true
 line_first t n (line_sig e) = cc
 line_first t n (line_still e d) = either_cases (is_some (expr_moved (Some an_eq.start) t)) (side_lives (side_moved side_start t)) e (λ h. eq_first t h) (λ h. start_code t equation_codes refl refl h)
 
