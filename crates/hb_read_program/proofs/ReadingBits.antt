@@ -1,5 +1,5 @@
 -- What the grammar says of bitdata, the table says.
-use Rattle.std.proofs.Common.{◌≡◌, ℕ, ◌+◌, List, [], ◌∷◌, ◌++◌, Option, Some, is_some, refl, sym, ap, ◌∙◌, append_assoc, arith}
+use Rattle.std.proofs.Common.{◌≡◌, ℕ, ◌+◌, List, [], ◌∷◌, ◌++◌, Option, Some, refl, sym, ap, ◌∙◌, append_assoc, arith}
 use Rattle.hb_base.specs.declared.name.Name.{Name}
 use Rattle.hb_base.specs.declared.place.Place.{Place}
 use Rattle.hb_tokens.specs.declared.token.Token.{Token}
@@ -7,12 +7,12 @@ use Rattle.hb_tokens.specs.declared.word.Word.TheVariants as word
 use Rattle.hb_tree.specs.declared.declaration.BitPart.{BitPart}
 use Rattle.hb_tree.specs.declared.declaration.BitCon.{BitCon}
 use Rattle.hb_tree.specs.declared.declaration.Decl.TheVariants as decl
-use Rattle.hb_grammar.specs.Tokens.{IsVar, IsCon, IsWord, IsBits, IsMark, IsOpenSquare, IsCloseSquare}
+use Rattle.hb_grammar.specs.Tokens.{IsVar, IsCon, IsWord, IsBits, IsMark}
 use Rattle.hb_grammar.specs.Types.{name_at}
 use Rattle.hb_grammar.specs.Declarations as grammar
 use Rattle.hb_grammar.specs.Declarations.{ReadsSize, ReadsBitPart, ReadsBitParts, ReadsBitCon, ReadsBitCons}
 use Rattle.hb_engine.specs.Tables.{row_end}
-use Rattle.hb_engine.proofs.EngineLaw.{append_none, rows}
+use Rattle.hb_engine.proofs.EngineLaw.{rows}
 use Rattle.hb_read_declarations.specs.declared.node.DeclNode.TheVariants as node
 use Rattle.hb_read_declarations.specs.Nodes.{named, counted, number_of, bit_part_of, bit_con_of, fields_of}
 use Rattle.hb_read_declarations.specs.Readers.{Out}
@@ -29,7 +29,7 @@ use Rattle.hb_read_program.specs.declared.symbol.Form.TheVariants as form
 use Rattle.hb_read_program.specs.declared.symbol.Production.TheVariants as production
 use Rattle.hb_read_program.specs.Frames.{waits}
 use Rattle.hb_read_program.proofs.Finishes.{Rows, rows_as}
-use Rattle.hb_read_program.proofs.Reading.{by_head, by_nothing, a_token, a_con, a_word, a_mark, var_fits, con_fits, word_fits, name_put}
+use Rattle.hb_read_program.proofs.Reading.{by_head, by_nothing, a_con, a_word, a_mark, con_fits, word_fits, name_put}
 use Rattle.hb_read_program.proofs.ReadingLists.{found_at, Puts, things_read}
 use Rattle.hb_read_program.proofs.ReadingDecls.{DeclPuts, three_closed}
 use Rattle.hb_read_program.proofs.ReadingParts.{size_read}

@@ -1,5 +1,5 @@
 -- What the grammar says of an instance, the table says.
-use Rattle.std.proofs.Common.{◌≡◌, ℕ, ◌+◌, List, [], ◌∷◌, ◌++◌, Some, refl, sym, ap, subst, ◌∙◌, append_assoc, arith}
+use Rattle.std.proofs.Common.{◌≡◌, ℕ, ◌+◌, List, [], ◌∷◌, ◌++◌, refl, sym, ap, subst, ◌∙◌, append_assoc, arith}
 use Rattle.hb_base.specs.declared.name.Name.{Name}
 use Rattle.hb_base.specs.declared.place.Place.{Place}
 use Rattle.hb_tokens.specs.declared.token.Token.{Token}

@@ -1,5 +1,5 @@
 -- What the grammar says is what the table says: things with readers of their own, sizes, infixes, fields and areas.
-use Rattle.std.proofs.Common.{◌≡◌, ℕ, List, [], ◌∷◌, ◌++◌, Option, refl, ap}
+use Rattle.std.proofs.Common.{ℕ, List, [], ◌∷◌, Option, refl}
 use Rattle.hb_base.specs.declared.name.Name.{Name}
 use Rattle.hb_base.specs.declared.place.Place.{Place}
 use Rattle.hb_tokens.specs.declared.token.Token.{Token}
@@ -15,12 +15,10 @@ use Rattle.hb_engine.proofs.EngineLaw.{append_none, rows}
 use Rattle.hb_read_declarations.specs.Nodes.{named, names_of, number_of, type_of}
 use Rattle.hb_read_declarations.specs.Readers.{Out}
 use Rattle.hb_read_declarations.proofs.Known.{if_true}
-use Rattle.hb_read_declarations.proofs.Leaves.{VarRead, var_read}
 use Rattle.hb_read_declarations.proofs.Lists.{made, head_of}
 use Rattle.hb_read_declarations.proofs.Smaller.{InfixRead, infixes_back}
 use Rattle.hb_read_program.specs.Rules.{Leaf, heads, fits}
 use Rattle.hb_read_program.specs.declared.symbol.Kind.TheVariants as kind
-use Rattle.hb_read_program.specs.declared.symbol.Put.TheVariants as put
 use Rattle.hb_read_program.specs.declared.symbol.Symbol.TheVariants as symbol
 use Rattle.hb_read_program.specs.declared.symbol.Things.TheVariants as things
 use Rattle.hb_read_program.specs.declared.symbol.Leaf.TheVariants as leaf

@@ -13,7 +13,7 @@ use Rattle.hb_grammar.specs.Types.{name_at, ReadsAtype}
 use Rattle.hb_grammar.specs.Declarations.{dir_name}
 use Rattle.hb_engine.proofs.EngineLaw.{rows}
 use Rattle.hb_read_declarations.specs.declared.node.DeclNode.TheVariants as node
-use Rattle.hb_read_declarations.specs.Nodes.{named, type_of}
+use Rattle.hb_read_declarations.specs.Nodes.{type_of}
 use Rattle.hb_read_declarations.proofs.Lists.{made}
 use Rattle.hb_read_declarations.proofs.WorthLaws.{bits_is}
 use Rattle.hb_read_program.specs.Rules.{heads, mute, found, width_in, bits_in}

@@ -1,11 +1,11 @@
 -- The names of a signature are read beside an equation, whatever the equation's state is.
-use Rattle.std.proofs.Common.{◌≡◌, ℕ, zero, suc, ◌+◌, true, List, [], ◌∷◌, ◌++◌, Option, Some, None, is_some, refl, sym, ap, subst, ◌∙◌, append_assoc, arith}
+use Rattle.std.proofs.Common.{◌≡◌, ℕ, suc, ◌+◌, List, [], ◌∷◌, ◌++◌, Option, Some, None, is_some, refl, sym, ap, subst, ◌∙◌, append_assoc, arith}
 use Rattle.hb_base.specs.declared.name.Name.{Name}
 use Rattle.hb_base.specs.declared.place.Place.{Place}
 use Rattle.hb_tokens.specs.declared.token.Token.{Token}
 use Rattle.hb_tokens.specs.declared.word.Word.TheVariants as word
 use Rattle.hb_tree.specs.declared.types.NameAt.{NameAt}
-use Rattle.hb_grammar.specs.Tokens.{IsVar, IsOp, IsWord, IsComma, IsOpen, IsClose, first_place}
+use Rattle.hb_grammar.specs.Tokens.{IsWord, IsComma, first_place}
 use Rattle.hb_grammar.specs.Expressions as expressions
 use Rattle.hb_grammar.specs.Expressions.{ReadsName}
 use Rattle.hb_grammar.specs.Declarations as grammar
@@ -17,14 +17,14 @@ use Rattle.hb_read_declarations.specs.declared.node.DeclNode.TheVariants as node
 use Rattle.hb_read_declarations.specs.Combined.{mapped}
 use Rattle.hb_read_declarations.specs.Nodes.{named, counted}
 use Rattle.hb_read_declarations.specs.Readers.{Out}
-use Rattle.hb_read_declarations.specs.Worths.{kind_var, kind_word, kind_mark, mark, this_word}
+use Rattle.hb_read_declarations.specs.Worths.{kind_var, kind_word, kind_mark, mark}
 use Rattle.hb_read_declarations.proofs.Known.{some_none, none_is}
 use Rattle.hb_read_declarations.proofs.WorthLaws.{var_is, op_is, mark_is, word_is}
 use Rattle.hb_read_program.specs.Rules.{item}
 use Rattle.hb_read_program.specs.declared.symbol.Symbol.TheVariants as symbol
 use Rattle.hb_read_program.specs.declared.symbol.Count.TheVariants as count
 use Rattle.hb_read_program.specs.declared.symbol.Leaf.TheVariants as leaf
-use Rattle.hb_read_program.specs.Frames.{Frame, waits, reads_line, ATurn, turn_to, frames_of, Side, Spot, spot_if, name_spot, operator_spot, close_spot, comma_if, side_moved, side_start, first_at, sig_behind, sig_turn, sig_if, expr_moved, or_line, still_line, line_turn, line_nothing, begun_line, head_turn}
+use Rattle.hb_read_program.specs.Frames.{waits, reads_line, turn_to, frames_of, Side, Spot, spot_if, name_spot, operator_spot, close_spot, comma_if, side_moved, side_start, first_at, sig_behind, sig_turn, sig_if, expr_moved, or_line, still_line, begun_line, head_turn}
 use Rattle.hb_read_program.specs.declared.side.Side.TheVariants as side
 use Rattle.hb_read_program.specs.declared.side.Spot.TheVariants as spot
 use Rattle.hb_read_program.proofs.TableLaws.{leaf_known}

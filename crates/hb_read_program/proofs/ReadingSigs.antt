@@ -10,7 +10,6 @@ use Rattle.hb_tree.specs.declared.types.PredExpr.{PredExpr}
 use Rattle.hb_tree.specs.declared.types.Sig.{Sig}
 use Rattle.hb_tree.specs.declared.declaration.Decl.TheVariants as decl
 use Rattle.hb_grammar.specs.Tokens.{IsVar, IsWord, IsComma, first_place}
-use Rattle.hb_grammar.specs.Types.{name_at}
 use Rattle.hb_grammar.specs.Expressions as expressions
 use Rattle.hb_grammar.specs.Expressions.{ReadsName}
 use Rattle.hb_grammar.specs.Declarations as grammar

@@ -1,13 +1,12 @@
 -- What the grammar says of structs, the table says.
-use Rattle.std.proofs.Common.{◌≡◌, ℕ, ◌+◌, List, [], ◌∷◌, ◌++◌, Option, Some, is_some, refl, ap, ◌∙◌}
+use Rattle.std.proofs.Common.{◌≡◌, ℕ, List, [], ◌∷◌, ◌++◌, Option, Some, is_some, refl, ap, ◌∙◌}
 use Rattle.hb_base.specs.declared.name.Name.{Name}
 use Rattle.hb_base.specs.declared.place.Place.{Place}
-use Rattle.hb_base.specs.Fixed.{pad}
 use Rattle.hb_tokens.specs.declared.token.Token.{Token}
 use Rattle.hb_tokens.specs.declared.word.Word.TheVariants as word
 use Rattle.hb_tree.specs.declared.declaration.StructPart.{StructPart}
 use Rattle.hb_tree.specs.declared.declaration.Decl.TheVariants as decl
-use Rattle.hb_grammar.specs.Tokens.{IsVar, IsCon, IsWord, IsNumber, IsOpenSquare, IsCloseSquare}
+use Rattle.hb_grammar.specs.Tokens.{IsVar, IsCon, IsWord, IsOpenSquare, IsCloseSquare}
 use Rattle.hb_grammar.specs.Types.{name_at}
 use Rattle.hb_grammar.specs.Declarations as grammar
 use Rattle.hb_grammar.specs.Declarations.{ReadsSize, ReadsStructPart, ReadsStructParts}
