@@ -1,5 +1,5 @@
 -- What the grammar says of bitdata, the table says.
-use Rattle.std.proofs.Common.{◌≡◌, ℕ, ◌+◌, List, [], ◌∷◌, ◌++◌, Option, Some, refl, sym, ap, ◌∙◌, append_assoc, arith}
+use Rattle.std.proofs.Common.{◌≡◌, ℕ, ◌+◌, List, [], ◌∷◌, ◌++◌, Option, Some, refl, sym, ap, ◌∙◌, append_assoc}
 use Rattle.hb_base.specs.declared.name.Name.{Name}
 use Rattle.hb_base.specs.declared.place.Place.{Place}
 use Rattle.hb_tokens.specs.declared.token.Token.{Token}
@@ -30,16 +30,10 @@ use Rattle.hb_read_program.specs.declared.symbol.Production.TheVariants as produ
 use Rattle.hb_read_program.specs.Frames.{waits}
 use Rattle.hb_read_program.proofs.Finishes.{Rows, rows_as}
 use Rattle.hb_read_program.proofs.Reading.{by_head, by_nothing, a_con, a_word, a_mark, con_fits, word_fits, name_put}
-use Rattle.hb_read_program.proofs.ReadingLists.{found_at, Puts, things_read}
+use Rattle.hb_read_program.proofs.ReadingLists.{found_at, Puts, things_read, counts, none_more}
 use Rattle.hb_read_program.proofs.ReadingDecls.{DeclPuts, three_closed}
 use Rattle.hb_read_program.proofs.ReadingParts.{size_read}
 use Rattle.hb_read_program.proofs.ReadingFields.{row_from, var_token, var_there, fields_read, by_fields}
-
-counts : (a b : ℕ) → (a + 1) + b ≡ a + (1 + b)
-counts a b = omega arith
-
-none_more : (n : ℕ) → n ≡ n + 0
-none_more n = omega arith
 
 part_var : {name : Name} (t : Token) → IsVar name t → found (heads symbol.BitPart) t ≡ Some (head kind.Var put.Name production.BitFields)
 part_var {name} t v = found_at (heads symbol.BitPart) t v.kind ∙ if_true (fits kind.Var (var_token t.place name)) _ _ (var_there t v)

@@ -56,7 +56,7 @@ data_puts {t} {s} {name} {params} {cons} d e h f g p n ms vs after =
 
 -- block(top) without its `{`
 
-one_more : (n : ℕ) → n + 1 ≡ n + (1 + 0)
+pub one_more : (n : ℕ) → n + 1 ≡ n + (1 + 0)
 one_more n = omega arith
 
 counts : (a b : ℕ) → (a + 1) + b ≡ a + (1 + b)

@@ -1,5 +1,5 @@
 -- What the grammar says of an instance, the table says.
-use Rattle.std.proofs.Common.{◌≡◌, ℕ, ◌+◌, List, [], ◌∷◌, ◌++◌, refl, sym, ap, subst, ◌∙◌, append_assoc, arith}
+use Rattle.std.proofs.Common.{◌≡◌, ℕ, ◌+◌, List, [], ◌∷◌, ◌++◌, refl, sym, ap, subst, ◌∙◌, append_assoc}
 use Rattle.hb_base.specs.declared.name.Name.{Name}
 use Rattle.hb_base.specs.declared.place.Place.{Place}
 use Rattle.hb_tokens.specs.declared.token.Token.{Token}
@@ -36,22 +36,10 @@ use Rattle.hb_read_program.specs.declared.symbol.Form.TheVariants as form
 use Rattle.hb_read_program.specs.Frames.{waits}
 use Rattle.hb_read_program.proofs.Finishes.{Rows, rows_as, LeafBegun, leaf_begun, leaf_symbol}
 use Rattle.hb_read_program.proofs.Reading.{by_head, by_nothing, a_con, a_mark, mark_fits}
-use Rattle.hb_read_program.proofs.ReadingLists.{found_at, Puts, things_read, atypes_read}
-use Rattle.hb_read_program.proofs.ReadingDecls.{DeclPuts}
+use Rattle.hb_read_program.proofs.ReadingLists.{found_at, Puts, things_read, atypes_read, counts, none_more, none_plus}
+use Rattle.hb_read_program.proofs.ReadingDecls.{DeclPuts, one_more}
 use Rattle.hb_read_program.proofs.ReadingParts.{leaf_read}
 use Rattle.hb_read_program.proofs.ReadingArea.{four_closed}
-
-one_more : (n : ℕ) → n + 1 ≡ n + (1 + 0)
-one_more n = omega arith
-
-counts : (a b : ℕ) → (a + 1) + b ≡ a + (1 + b)
-counts a b = omega arith
-
-none_more : (n : ℕ) → n ≡ n + 0
-none_more n = omega arith
-
-none_plus : (n : ℕ) → 0 + n ≡ n
-none_plus n = omega arith
 
 -- atype+
 args_then : (a : TypeExpr) (p : Place) (n : ℕ) {ts us vs : List Token} {ms : Out} → LeafBegun leaf.Atype symbol.SomeAtypes p n (item symbol.Atypes count.One ∷ []) ts (type_of a) us → ((q : Place) → Rows (waits symbol.Atypes q 1 ∷ []) us ms vs) → Rows (waits symbol.SomeAtypes p n ∷ []) ts (type_of a ++ ms) vs

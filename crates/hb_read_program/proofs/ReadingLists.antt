@@ -58,13 +58,13 @@ things_node_is things.StructParts p n = refl
 things_node_is things.Depends p n = refl
 things_node_is things.Preds p n = refl
 
-none_more : (n : ℕ) → n ≡ n + 0
+pub none_more : (n : ℕ) → n ≡ n + 0
 none_more n = omega arith
 
-none_plus : (n : ℕ) → 0 + n ≡ n
+pub none_plus : (n : ℕ) → 0 + n ≡ n
 none_plus n = omega arith
 
-counts : (a b : ℕ) → (a + 1) + b ≡ a + (1 + b)
+pub counts : (a b : ℕ) → (a + 1) + b ≡ a + (1 + b)
 counts a b = omega arith
 
 -- what is asked of the things

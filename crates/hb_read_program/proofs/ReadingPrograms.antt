@@ -1,5 +1,5 @@
 -- What the grammar says of a program, the table says.
-use Rattle.std.proofs.Common.{◌≡◌, ℕ, ◌+◌, true, List, [], ◌∷◌, ◌++◌, is_some, ap, ◌∙◌, arith}
+use Rattle.std.proofs.Common.{◌≡◌, ◌+◌, true, List, [], ◌∷◌, ◌++◌, is_some, ap, ◌∙◌}
 use Rattle.hb_tokens.specs.declared.token.Token.{Token}
 use Rattle.hb_tree.specs.declared.declaration.Decl.{Decl}
 use Rattle.hb_tree.specs.declared.declaration.Program.{Program}
@@ -17,7 +17,7 @@ use Rattle.hb_read_program.specs.declared.symbol.Symbol.TheVariants as symbol
 use Rattle.hb_read_program.specs.Frames.{program_start}
 use Rattle.hb_read_program.proofs.Finishes.{Rows, rows_as}
 use Rattle.hb_read_program.proofs.Reading.{by_head, a_token}
-use Rattle.hb_read_program.proofs.ReadingLists.{found_at}
+use Rattle.hb_read_program.proofs.ReadingLists.{found_at, none_plus}
 use Rattle.hb_read_program.proofs.ReadingDecls.{DeclPuts, data_puts, decls_read}
 use Rattle.hb_read_program.proofs.ReadingFixity.{fixity_puts}
 use Rattle.hb_read_program.proofs.ReadingArea.{area_puts}
@@ -44,9 +44,6 @@ decl_puts (grammar.instance_decl d e h g k) = instance_puts d e h g k
 
 end_fits : (t : Token) → IsEnd t → fits kind.End t ≡ true
 end_fits t e = ap (λ k. is_some (kind_end t.place k)) e
-
-none_plus : (n : ℕ) → 0 + n ≡ n
-none_plus n = omega arith
 
 -- whatever the grammar derives, the table reads
 pub grammar_rows : {ts : List Token} {p : Program} → Derives ts p → Rows (program_start ∷ []) ts (program_nodes p) []

@@ -31,6 +31,8 @@ use Rattle.hb_read_program.proofs.TableLaws.{leaf_known}
 use Rattle.hb_read_program.proofs.Fits.{an_eq, line_of}
 use Rattle.hb_read_program.proofs.Turns.{line_first}
 use Rattle.hb_read_program.proofs.Finishes.{Rows, rows_as, no_head}
+use Rattle.hb_read_program.proofs.ReadingLists.{counts, none_plus}
+use Rattle.hb_read_program.proofs.ReadingDecls.{one_more}
 use Rattle.hb_read_program.proofs.ReadingFields.{row_from}
 
 -- names that are read stay, whatever the equation's state is
@@ -87,12 +89,6 @@ later_at : (k : ℕ) (p : Place) (ns : List NameAt) → names_at (k + 1) p ns �
 later_at k p [] = refl
 later_at k p (n ∷ ns) = ap (λ m. first_at m p n) (next_suc k)
 
-one_more : (n : ℕ) → n + 1 ≡ n + (1 + 0)
-one_more n = omega arith
-
-counts : (a b : ℕ) → (a + 1) + b ≡ a + (1 + b)
-counts a b = omega arith
-
 -- the nodes of a signature whose names stand behind these
 abbrev names_sig : Out → ℕ → List NameAt → Out → Place → Out
 names_sig out k ns x p = ((out ++ (counted named ns).nodes) ++ node.Names (k + (counted named ns).count) ∷ []) ++ (x ++ node.Sig p ∷ [])
@@ -112,9 +108,6 @@ names_row e p k out x c (grammar.more_names {place} {name} {names} h s j) i d g 
     name_then e p k out h (λ r. comma_then r p k out n s (λ u.
     rows_as (ap (names_sig (out ++ named n) (k + 1) names x) (later_at k (first_at k p n) names) ∙ names_more out k n names x (first_at k p n))
     (names_row u (first_at k p n) (k + 1) (out ++ named n) x c j i d g)))
-
-none_plus : (n : ℕ) → 0 + n ≡ n
-none_plus n = omega arith
 
 -- where no name is read yet
 abbrev no_place : Place

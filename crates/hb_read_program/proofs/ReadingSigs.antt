@@ -1,5 +1,5 @@
 -- What the grammar says of signatures, the table says: as declarations, and as methods of a class.
-use Rattle.std.proofs.Common.{◌≡◌, ℕ, ◌+◌, List, [], ◌∷◌, ◌++◌, Some, refl, sym, ap, ◌∙◌, append_assoc, arith}
+use Rattle.std.proofs.Common.{◌≡◌, ℕ, ◌+◌, List, [], ◌∷◌, ◌++◌, Some, refl, sym, ap, ◌∙◌, append_assoc}
 use Rattle.hb_base.specs.declared.name.Name.{Name}
 use Rattle.hb_base.specs.declared.place.Place.{Place}
 use Rattle.hb_tokens.specs.declared.token.Token.{Token}
@@ -35,23 +35,11 @@ use Rattle.hb_read_program.specs.declared.symbol.Production.TheVariants as produ
 use Rattle.hb_read_program.specs.Frames.{Frame, waits}
 use Rattle.hb_read_program.proofs.Finishes.{Rows, rows_as}
 use Rattle.hb_read_program.proofs.Reading.{by_head, by_nothing, a_token, a_word, a_mark, op_fits, mark_fits, name_put}
-use Rattle.hb_read_program.proofs.ReadingLists.{found_at, more_read}
-use Rattle.hb_read_program.proofs.ReadingDecls.{DeclPuts, names_of_name}
+use Rattle.hb_read_program.proofs.ReadingLists.{found_at, more_read, counts, none_more, none_plus}
+use Rattle.hb_read_program.proofs.ReadingDecls.{DeclPuts, names_of_name, one_more}
 use Rattle.hb_read_program.proofs.ReadingParts.{leaf_read}
 use Rattle.hb_read_program.proofs.ReadingFields.{var_token, var_there}
 use Rattle.hb_read_program.proofs.ReadingSides.{name_first, sig_line}
-
-one_more : (n : ℕ) → n + 1 ≡ n + (1 + 0)
-one_more n = omega arith
-
-counts : (a b : ℕ) → (a + 1) + b ≡ a + (1 + b)
-counts a b = omega arith
-
-none_more : (n : ℕ) → n ≡ n + 0
-none_more n = omega arith
-
-none_plus : (n : ℕ) → 0 + n ≡ n
-none_plus n = omega arith
 
 -- [context "=>"] type, behind `::` of the signature at this place
 sig_rest : {ts us : List Token} {ps : List PredExpr} {a : TypeExpr} → ReadsQualified ts ps a us → (q : Place) → Rows (waits (symbol.Read leaf.Qualified) q 0 ∷ waits (symbol.Close form.Sig) q 0 ∷ []) ts (typed (context_nodes ps ++ type_nodes a) ++ node.Sig q ∷ []) us
