@@ -12,3 +12,8 @@ pub mod ReadingFixity
 pub mod ReadingInits
 pub mod ReadingArea
 pub mod ReadingLines
+pub mod Means
+pub mod MeansLaws
+pub mod MeansTokens
+pub mod MeansLists
+pub mod MeansInits
