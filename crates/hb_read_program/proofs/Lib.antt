@@ -17,3 +17,7 @@ pub mod MeansLaws
 pub mod MeansTokens
 pub mod MeansLists
 pub mod MeansInits
+pub mod MeansParts
+pub mod MeansBlocks
+pub mod MeansLines
+pub mod MeansClass
