@@ -21,3 +21,5 @@ pub mod MeansParts
 pub mod MeansBlocks
 pub mod MeansLines
 pub mod MeansClass
+pub mod MeansDecls
+pub mod MeansClosed
