@@ -14,7 +14,7 @@ use Rattle.hb_grammar.specs.Reading.{Runs}
 use Rattle.hb_grammar.specs.Tokens.{IsVar, IsOp, IsCon, IsWord, IsNumber, IsBits, IsClose, IsComma, IsSemicolon, IsCloseSquare, IsCloseBrace}
 use Rattle.hb_grammar.specs.Types.{name_at, ReadsType, ReadsAtype, ReadsAtypes, ReadsPred}
 use Rattle.hb_grammar.specs.Expressions.{ReadsExpr}
-use Rattle.hb_grammar.specs.Declarations.{a_name, dir_name, ReadsInfixes, ReadsVars, ReadsFieldDecl, ReadsBitPart, ReadsBitParts, ReadsBitCon, ReadsSize, ReadsStructPart, ReadsInit, ReadsStart, ReadsAlign, ReadsDepend, ReadsDepends, ReadsSig, ReadsSigs, ReadsMethods, ReadsConditions, ReadsInstanceBody, ReadsDecls}
+use Rattle.hb_grammar.specs.Declarations.{a_name, dir_name, ReadsInfixes, ReadsVars, ReadsFieldDecl, ReadsBitPart, ReadsBitParts, ReadsBitCon, ReadsSize, ReadsStructPart, ReadsInit, ReadsStart, ReadsAlign, ReadsDepend, ReadsDepends, ReadsSigs, ReadsMethods, ReadsConditions, ReadsInstanceBody, ReadsDecls}
 use Rattle.hb_read_types.specs.declared.context_reader.ContextReader.{ContextReader}
 use Rattle.hb_read_expressions.specs.declared.state.State.{State}
 use Rattle.hb_read_declarations.specs.declared.node.DeclNode.{DeclNode}

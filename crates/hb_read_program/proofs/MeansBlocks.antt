@@ -1,5 +1,5 @@
 -- What the table says of blocks, the grammar says: signatures of a class, equations of an instance, and declarations.
-use Rattle.std.proofs.Common.{◌≡◌, ℕ, ◌+◌, List, [], ◌∷◌, ◌++◌, refl, sym, ap, ◌∙◌}
+use Rattle.std.proofs.Common.{◌≡◌, ℕ, ◌+◌, List, [], ◌∷◌, ◌++◌, refl, sym, ◌∙◌}
 use Rattle.hb_base.specs.declared.place.Place.{Place}
 use Rattle.hb_tokens.specs.declared.token.Token.{Token}
 use Rattle.hb_tokens.specs.declared.word.Word.TheVariants as word
@@ -8,21 +8,20 @@ use Rattle.hb_tree.specs.declared.types.Sig.{Sig}
 use Rattle.hb_tree.specs.declared.statement.Bind.{Bind}
 use Rattle.hb_tree.specs.declared.declaration.Decl.{Decl}
 use Rattle.hb_grammar.specs.Expressions as expressions
-use Rattle.hb_grammar.specs.Types.{name_at}
 use Rattle.hb_grammar.specs.Declarations as grammar
 use Rattle.hb_grammar.specs.Declarations.{a_name, ReadsSig, ReadsSigs, ReadsDecl, ReadsDecls}
 use Rattle.hb_engine.proofs.Model.{nothing, then}
 use Rattle.hb_engine.proofs.EngineLaw.{append_none}
 use Rattle.hb_read_declarations.specs.declared.node.DeclNode.{DeclNode}
 use Rattle.hb_read_declarations.specs.declared.node.DeclNode.TheVariants as node
-use Rattle.hb_read_declarations.specs.Nodes.{counted, named, names_of, sig_of, bind_of, decl_nodes}
+use Rattle.hb_read_declarations.specs.Nodes.{counted, names_of, sig_of, bind_of, decl_nodes}
 use Rattle.hb_read_declarations.specs.Readers.{Out}
 use Rattle.hb_read_declarations.proofs.Lists.{Block, no_thing, empty_thing, last_in, more_in}
 use Rattle.hb_read_declarations.proofs.Smaller.{names_from}
 use Rattle.hb_read_declarations.proofs.Typing.{Qualified}
 use Rattle.hb_read_declarations.proofs.Equations.{EquationRead, binds_from}
 use Rattle.hb_read_declarations.proofs.Blocked.{qualified_of}
-use Rattle.hb_read_program.specs.Rules.{heads, behind, head, mark_head, word_head, close_head, name_in, item}
+use Rattle.hb_read_program.specs.Rules.{head, mark_head, word_head, close_head, name_in, item}
 use Rattle.hb_read_program.specs.declared.symbol.Kind.TheVariants as kind
 use Rattle.hb_read_program.specs.declared.symbol.Put.TheVariants as put
 use Rattle.hb_read_program.specs.declared.symbol.Symbol.TheVariants as symbol
@@ -32,7 +31,7 @@ use Rattle.hb_read_program.specs.declared.symbol.Leaf.TheVariants as leaf
 use Rattle.hb_read_program.specs.declared.symbol.Production.TheVariants as production
 use Rattle.hb_read_program.specs.Frames.{waits}
 use Rattle.hb_read_program.proofs.Means.{thing, counted_from, one_fits, closes, After, after_close, after_semicolon, left_out, Means}
-use Rattle.hb_read_program.proofs.MeansLaws.{part, parts, same_parts, things_as, HeadLaw, no_other, and_also, no_leaf_law, BehindLeaf, leaf_law, never_law, nothing_law, SymbolLaw}
+use Rattle.hb_read_program.proofs.MeansLaws.{part, parts, same_parts, thing_as, HeadLaw, no_other, and_also, no_leaf_law, BehindLeaf, leaf_law, never_law, nothing_law, SymbolLaw}
 use Rattle.hb_read_program.proofs.MeansTokens.{is_var, is_op, is_word, is_mark}
 use Rattle.hb_read_program.proofs.MeansLists.{counted_zero, counted_none, cons_next, with_more}
 use Rattle.hb_read_program.proofs.MeansParts.{optional_as}
@@ -64,22 +63,22 @@ sigs_nodes : (n : ℕ) (p : Place) (names : List NameAt) (q : Qualified) (sigs :
 sigs_nodes n p names q sigs = cons_next node.Sigs sig_of n (sig_at p names q) sigs ∙ sig_nodes names q p (counted_from node.Sigs sig_of (n + 1) sigs ++ [])
 
 sigs_close : HeadLaw symbol.Sigs (close_head 125 form.Sigs)
-sigs_close p n t ts us ms e nothing = things_as [] (grammar.no_sig (is_mark 125 t e)) (counted_none node.Sigs sig_of n)
+sigs_close p n t ts us ms e nothing = thing_as [] (grammar.no_sig (is_mark 125 t e)) (counted_none node.Sigs sig_of n)
 
 sigs_semicolon : HeadLaw symbol.Sigs (mark_head 59 production.Sigs)
-sigs_semicolon p n t ts us ms e (then (thing {a} h) nothing) = things_as a (grammar.empty_sig (is_mark 59 t e) h) (same_behind node.Sigs sig_of n a)
+sigs_semicolon p n t ts us ms e (then (thing {a} h) nothing) = thing_as a (grammar.empty_sig (is_mark 59 t e) h) (same_behind node.Sigs sig_of n a)
 
 sigs_var : HeadLaw symbol.Sigs (head kind.Var put.Name production.SigNames)
 sigs_var p n t ts us ms e (then (thing {a = ns} h) (then (one_fits {t = s} f) (then (thing {a = q} k) (then closes (then (thing {a = sigs} l) nothing))))) =
     let name : NameAt = a_name t.place (name_in t.kind) in
-    things_as (sig_at t.place (name ∷ ns) q ∷ sigs)
+    thing_as (sig_at t.place (name ∷ ns) q ∷ sigs)
     (sig_before (grammar.sig (names_from (with_more (expressions.var (is_var t e)) h)) (is_word word.DoubleColon s f) k) l)
     (sigs_nodes n t.place (name ∷ ns) q sigs)
 
 sigs_op : HeadLaw symbol.Sigs (mark_head 40 production.SigBracketed)
 sigs_op p n t ts us ms e (then (one_fits {t = o} d) (then (one_fits {t = c} g) (then (thing {a = ns} h) (then (one_fits {t = s} f) (then (thing {a = q} k) (then closes (then (thing {a = sigs} l) nothing))))))) =
     let name : NameAt = a_name t.place (name_in o.kind) in
-    things_as (sig_at t.place (name ∷ ns) q ∷ sigs)
+    thing_as (sig_at t.place (name ∷ ns) q ∷ sigs)
     (sig_before (grammar.sig (names_from (with_more (expressions.op (is_mark 40 t e) (is_op o d) (is_mark 41 c g)) h)) (is_word word.DoubleColon s f) k) l)
     (sigs_nodes n t.place (name ∷ ns) q sigs)
 
@@ -87,10 +86,10 @@ pub sigs_law : SymbolLaw symbol.Sigs
 sigs_law = record { by_head = and_also sigs_close (and_also sigs_semicolon (and_also sigs_var (and_also sigs_op no_other))); by_leaf = no_leaf_law; by_nothing = never_law }
 
 sig_close : HeadLaw symbol.AfterSig (close_head 125 form.Sigs)
-sig_close p n t ts us ms e nothing = things_as [] (after_close (is_mark 125 t e)) (counted_none node.Sigs sig_of n)
+sig_close p n t ts us ms e nothing = thing_as [] (after_close (is_mark 125 t e)) (counted_none node.Sigs sig_of n)
 
 sig_semicolon : HeadLaw symbol.AfterSig (mark_head 59 production.Sigs)
-sig_semicolon p n t ts us ms e (then (thing {a} h) nothing) = things_as a (after_semicolon (is_mark 59 t e) h) (same_behind node.Sigs sig_of n a)
+sig_semicolon p n t ts us ms e (then (thing {a} h) nothing) = thing_as a (after_semicolon (is_mark 59 t e) h) (same_behind node.Sigs sig_of n a)
 
 pub after_sig_law : SymbolLaw symbol.AfterSig
 after_sig_law = record { by_head = and_also sig_close (and_also sig_semicolon no_other); by_leaf = no_leaf_law; by_nothing = never_law }
@@ -111,22 +110,22 @@ row_before h (after_close c) = last_in h c
 row_before h (after_semicolon s g) = more_in h s g
 
 rows_close : HeadLaw symbol.Rows (close_head 125 form.Equations)
-rows_close p n t ts us ms e nothing = things_as [] (no_thing (is_mark 125 t e)) (counted_none node.Equations bind_of n)
+rows_close p n t ts us ms e nothing = thing_as [] (no_thing (is_mark 125 t e)) (counted_none node.Equations bind_of n)
 
 rows_semicolon : HeadLaw symbol.Rows (mark_head 59 production.Rows)
-rows_semicolon p n t ts us ms e (then (thing {a} h) nothing) = things_as a (empty_thing (is_mark 59 t e) h) (same_behind node.Equations bind_of n a)
+rows_semicolon p n t ts us ms e (then (thing {a} h) nothing) = thing_as a (empty_thing (is_mark 59 t e) h) (same_behind node.Equations bind_of n a)
 
 rows_equation : BehindLeaf symbol.Rows leaf.Equation (item symbol.AfterRow count.Next ∷ [])
-rows_equation p n t ts us vs v ms (thing {a} h) (then (thing {a = rows} k) nothing) = things_as (a ∷ rows) (row_before h k) (cons_next node.Equations bind_of n a rows)
+rows_equation p n t ts us vs v ms (thing {a} h) (then (thing {a = rows} k) nothing) = thing_as (a ∷ rows) (row_before h k) (cons_next node.Equations bind_of n a rows)
 
 pub rows_law : SymbolLaw symbol.Rows
 rows_law = record { by_head = and_also rows_close (and_also rows_semicolon no_other); by_leaf = leaf_law rows_equation; by_nothing = never_law }
 
 row_close : HeadLaw symbol.AfterRow (close_head 125 form.Equations)
-row_close p n t ts us ms e nothing = things_as [] (after_close (is_mark 125 t e)) (counted_none node.Equations bind_of n)
+row_close p n t ts us ms e nothing = thing_as [] (after_close (is_mark 125 t e)) (counted_none node.Equations bind_of n)
 
 row_semicolon : HeadLaw symbol.AfterRow (mark_head 59 production.Rows)
-row_semicolon p n t ts us ms e (then (thing {a} h) nothing) = things_as a (after_semicolon (is_mark 59 t e) h) (same_behind node.Equations bind_of n a)
+row_semicolon p n t ts us ms e (then (thing {a} h) nothing) = thing_as a (after_semicolon (is_mark 59 t e) h) (same_behind node.Equations bind_of n a)
 
 pub after_row_law : SymbolLaw symbol.AfterRow
 after_row_law = record { by_head = and_also row_close (and_also row_semicolon no_other); by_leaf = no_leaf_law; by_nothing = never_law }
@@ -147,16 +146,16 @@ decl_before h (after_close c) = grammar.last_decl h c
 decl_before h (after_semicolon s g) = grammar.more_decls h s g
 
 pub tops_close : HeadLaw symbol.Tops (close_head 125 form.Program)
-tops_close p n t ts us ms e nothing = things_as [] (grammar.no_decl (is_mark 125 t e)) (counted_none node.Program decl_nodes n)
+tops_close p n t ts us ms e nothing = thing_as [] (grammar.no_decl (is_mark 125 t e)) (counted_none node.Program decl_nodes n)
 
 pub tops_semicolon : HeadLaw symbol.Tops (mark_head 59 production.Tops)
-tops_semicolon p n t ts us ms e (then (thing {a} h) nothing) = things_as a (grammar.empty_decl (is_mark 59 t e) h) (same_behind node.Program decl_nodes n a)
+tops_semicolon p n t ts us ms e (then (thing {a} h) nothing) = thing_as a (grammar.empty_decl (is_mark 59 t e) h) (same_behind node.Program decl_nodes n a)
 
 top_close : HeadLaw symbol.AfterTop (close_head 125 form.Program)
-top_close p n t ts us ms e nothing = things_as [] (after_close (is_mark 125 t e)) (counted_none node.Program decl_nodes n)
+top_close p n t ts us ms e nothing = thing_as [] (after_close (is_mark 125 t e)) (counted_none node.Program decl_nodes n)
 
 top_semicolon : HeadLaw symbol.AfterTop (mark_head 59 production.Tops)
-top_semicolon p n t ts us ms e (then (thing {a} h) nothing) = things_as a (after_semicolon (is_mark 59 t e) h) (same_behind node.Program decl_nodes n a)
+top_semicolon p n t ts us ms e (then (thing {a} h) nothing) = thing_as a (after_semicolon (is_mark 59 t e) h) (same_behind node.Program decl_nodes n a)
 
 pub after_top_law : SymbolLaw symbol.AfterTop
 after_top_law = record { by_head = and_also top_close (and_also top_semicolon no_other); by_leaf = no_leaf_law; by_nothing = never_law }

@@ -24,11 +24,11 @@ use Rattle.hb_read_declarations.proofs.WorthLaws.{var_of, con_of}
 use Rattle.hb_read_program.specs.Rules.{fits, name_in}
 use Rattle.hb_read_program.specs.declared.symbol.Kind.TheVariants as kind
 use Rattle.hb_read_program.specs.declared.symbol.Symbol.TheVariants as symbol
-use Rattle.hb_read_program.specs.Frames.{a_context, reads_class, ATurn, turn_to, frames_of, Heading, first_heading, next_heading, heading_moved, context_moved, context_whole, class_nothing}
+use Rattle.hb_read_program.specs.Frames.{a_context, reads_class, ATurn, frames_of, Heading, first_heading, next_heading, heading_moved, context_moved, context_whole, class_nothing}
 use Rattle.hb_read_program.specs.declared.side.Heading.TheVariants as heading
 use Rattle.hb_read_program.proofs.Fits.{context_fine, class_items, ClassTurn, class_arrow, class_still}
 use Rattle.hb_read_program.proofs.Means.{Thing, thing, one_fits, counted_from, has_names, HeadingMeans, before_names, among_names, ClassMeans, by_context, by_heading, Means}
-use Rattle.hb_read_program.proofs.MeansLaws.{things_as, no_other, class_law, never_law, SymbolLaw}
+use Rattle.hb_read_program.proofs.MeansLaws.{thing_as, no_other, class_law, never_law, SymbolLaw}
 use Rattle.hb_read_program.proofs.MeansTokens.{is_con, is_word}
 use Rattle.hb_read_program.proofs.MeansLists.{counted_zero, counted_none, counted_next}
 
@@ -114,13 +114,13 @@ class_turns c h t {ts} {us} {ms} (class_still g i) = let P : ATurn → Type 0 = 
 -- [context "=>"] conid varid+
 
 head_with : {v : Out} {x : Token} {n : NameAt} {ns : List NameAt} {ts us vs ws : List Token} → Made ReadsContext context_of ts v (x ∷ us) → IsWord word.DoubleArrow x → ConRead us n vs → SomeVars vs ns ws → Thing ClassHeadRead class_head_of ts (v ++ (named n ++ names_of ns)) ws
-head_with {n} {ns} m f g k = things_as (record { context = m.thing; name = n; params = ns }) (class_head (grammar.supers m.read f) g k) (ap (λ v. v ++ (named n ++ names_of ns)) (sym m.is))
+head_with {n} {ns} m f g k = thing_as (record { context = m.thing; name = n; params = ns }) (class_head (grammar.supers m.read f) g k) (ap (λ v. v ++ (named n ++ names_of ns)) (sym m.is))
 
 context_run : {s : ContextReader} {ts us : List Token} {v : Out} → Some a_context.start ≡ Some s → Runs a_context s ts v us → Made ReadsContext context_of ts v us
 context_run {ts} {us} {v} i h = context_fine.exact.sound (subst (λ s. Runs a_context s ts v us) (sym (some_is i)) h)
 
 head_alone : {ts us : List Token} {ms : Out} → HeadingMeans heading.Before ts ms us → Thing ClassHeadRead class_head_of ts ms us
-head_alone (before_names {n} {ns} g k) = things_as (record { context = []; name = n; params = ns }) (class_head grammar.no_supers g k) refl
+head_alone (before_names {n} {ns} g k) = thing_as (record { context = []; name = n; params = ns }) (class_head grammar.no_supers g k) refl
 
 head_class : {ts us : List Token} {ms : Out} → ClassMeans (Some a_context.start) heading.Before ts ms us → Thing ClassHeadRead class_head_of ts ms us
 head_class (by_context i m f g k) = head_with (context_run i m) f g k

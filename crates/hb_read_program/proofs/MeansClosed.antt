@@ -9,15 +9,15 @@ use Rattle.hb_read_declarations.specs.Exactly.{Made, ProgramRead}
 use Rattle.hb_read_declarations.specs.Nodes.{program_nodes}
 use Rattle.hb_read_declarations.specs.Readers.{Out}
 use Rattle.hb_read_declarations.proofs.Known.{some_is}
-use Rattle.hb_read_program.specs.Rules.{Leaf, Symbol, Item, Kind, Put, Head, Form, Begins, heads, head, begins_with, found, fits, put_out, node_of}
+use Rattle.hb_read_program.specs.Rules.{Leaf, Symbol, Item, Kind, Put, Head, Form, Begins, heads, head, found, put_out}
 use Rattle.hb_read_program.specs.declared.symbol.Symbol.TheVariants as symbol
 use Rattle.hb_read_program.specs.declared.symbol.Production.TheVariants as production
 use Rattle.hb_read_program.specs.declared.side.Heading.TheVariants as heading
-use Rattle.hb_read_program.specs.Frames.{LeafState, leaf_reader, a_context, Frame, waits, reads, reads_line, reads_class, ATurn, turn_to, frames_of, place_of, side_start, line_turn, begun, begun_line, leaf_turn, head_turn, frame_turn, frame_nothing, rules, program_start}
+use Rattle.hb_read_program.specs.Frames.{LeafState, leaf_reader, a_context, Frame, waits, reads, reads_line, reads_class, ATurn, frames_of, side_start, line_turn, begun, begun_line, leaf_turn, head_turn, frame_turn, frame_nothing, rules, program_start}
 use Rattle.hb_read_program.proofs.TableLaws.{leaf_known}
 use Rattle.hb_read_program.proofs.Fits.{an_eq, line_of, class_of}
 use Rattle.hb_read_program.proofs.Finishes.{Rows}
-use Rattle.hb_read_program.proofs.Means.{OneToken, one_fits, closes, LeafMeans, SymbolMeans, Means}
+use Rattle.hb_read_program.proofs.Means.{OneToken, one_fits, closes, LeafMeans, Means}
 use Rattle.hb_read_program.proofs.MeansLaws.{made_thing, leaf_means, HeadLaw, no_other, and_also, BehindLeaf, BehindLine, LeafLaw, no_leaf_law, leaf_law, line_law, class_law, never_law, nothing_law, SymbolLaw, Picked, picked, null_means, Split, split, split_all}
 use Rattle.hb_read_program.proofs.MeansLists.{more_law, name_law, infix_law, vars_law, some_vars_law, atypes_law, some_atypes_law, size_law, align_law, data_con_law}
 use Rattle.hb_read_program.proofs.MeansInits.{field_law, more_inits_law, init_law, start_law}

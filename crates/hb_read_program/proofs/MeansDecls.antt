@@ -1,6 +1,5 @@
 -- What the table says of declarations and of a program, the grammar says.
 use Rattle.std.proofs.Common.{◌≡◌, ℕ, ◌+◌, List, [], ◌∷◌, ◌++◌, refl, sym, ap, ◌∙◌, append_assoc}
-use Rattle.hb_base.specs.declared.port.Dir.TheVariants.{In, Out as Outwards}
 use Rattle.hb_tokens.specs.declared.token.Token.{Token}
 use Rattle.hb_tokens.specs.declared.word.Word.TheVariants as word
 use Rattle.hb_tree.specs.Types.{TypeExpr}
@@ -28,11 +27,11 @@ use Rattle.hb_read_declarations.proofs.Leaves.{con_read}
 use Rattle.hb_read_declarations.proofs.Smaller.{some_vars}
 use Rattle.hb_read_declarations.proofs.Plain.{data_cons_from, bit_cons_from, struct_parts_from}
 use Rattle.hb_read_declarations.proofs.Blocked.{ClassHead, ClassHeadRead, class_head, class_head_of, SomeTypes, some_types, args_of}
-use Rattle.hb_read_program.specs.Rules.{heads, behind, mark_head, word_head, name_in}
+use Rattle.hb_read_program.specs.Rules.{mark_head, word_head, name_in}
 use Rattle.hb_read_program.specs.declared.symbol.Symbol.TheVariants as symbol
 use Rattle.hb_read_program.specs.declared.symbol.Production.TheVariants as production
 use Rattle.hb_read_program.proofs.Means.{Thing, thing, counted_from, one_fits, closes, After, fixity_rest, port_rest}
-use Rattle.hb_read_program.proofs.MeansLaws.{part, parts, same_parts, things_as, HeadLaw, no_other, and_also, no_leaf_law, line_law, never_law, SymbolLaw}
+use Rattle.hb_read_program.proofs.MeansLaws.{part, parts, same_parts, thing_as, HeadLaw, no_other, and_also, no_leaf_law, line_law, never_law, SymbolLaw}
 use Rattle.hb_read_program.proofs.MeansTokens.{is_var, is_con, is_word, is_mark, is_end}
 use Rattle.hb_read_program.proofs.MeansLists.{counted_zero, counted_first, cons_next, with_more}
 use Rattle.hb_read_program.proofs.MeansParts.{filled}
@@ -57,7 +56,7 @@ abbrev rest_of : ℕ → List Decl → Out
 rest_of n ds = counted_from node.Program decl_nodes (n + 1) ds ++ []
 
 decl_as : (n : ℕ) {ts us vs : List Token} {ms : Out} (d : Decl) (ds : List Decl) → ReadsDecl ts d us → After ReadsDecls us ds vs → decl_nodes d ++ rest_of n ds ≡ ms → Thing ReadsDecls (counted_from node.Program decl_nodes n) ts ms vs
-decl_as n d ds h k e = things_as (d ∷ ds) (decl_before h k) (cons_next node.Program decl_nodes n d ds ∙ e)
+decl_as n d ds h k e = thing_as (d ∷ ds) (decl_before h k) (cons_next node.Program decl_nodes n d ds ∙ e)
 
 -- each form of a declaration
 
@@ -131,7 +130,7 @@ tops_law = record {
 
 program_head : HeadLaw symbol.Program (mark_head 123 production.Program)
 program_head p n t ts us ms e (then (thing {a = ds} h) (then (one_fits {t = s} f) nothing)) =
-    things_as (record { decls = ds }) (program_read (is_mark 123 t e) h (is_end s f)) (sym (append_none (counted_from node.Program decl_nodes 0 ds) ∙ counted_zero node.Program decl_nodes ds))
+    thing_as (record { decls = ds }) (program_read (is_mark 123 t e) h (is_end s f)) (sym (append_none (counted_from node.Program decl_nodes 0 ds) ∙ counted_zero node.Program decl_nodes ds))
 
 pub program_law : SymbolLaw symbol.Program
 program_law = record { by_head = and_also program_head no_other; by_leaf = no_leaf_law; by_nothing = never_law }

@@ -1,5 +1,5 @@
 -- What is asked of the meaning of a symbol: a case for each head, for a reader that it begins with, and for nothing.
-use Rattle.std.proofs.Common.{◌≡◌, ℕ, Bool, true, false, cond, List, [], ◌∷◌, ◌++◌, Option, Some, None, refl, sym, ap, subst, ◌∙◌, append_assoc}
+use Rattle.std.proofs.Common.{◌≡◌, ℕ, true, List, [], ◌∷◌, ◌++◌, Option, Some, None, refl, sym, ap, subst, ◌∙◌, append_assoc}
 use Rattle.hb_base.specs.declared.place.Place.{Place}
 use Rattle.hb_tokens.specs.declared.token.Token.{Token}
 use Rattle.hb_engine.proofs.Model.{All, nothing, then}
@@ -38,11 +38,11 @@ same_parts a b e = sym (append_none (joined a)) ∙ (flat_is a [] ∙ (e ∙ (sy
 
 -- things
 
-pub things_as : {A : Type 0} {Reads : List Token → A → List Token → Type 0} {f : A → Out} {ts us : List Token} {ms : Out} (a : A) → Reads ts a us → f a ≡ ms → Thing Reads f ts ms us
-things_as {Reads} {f} {ts} {us} a h e = subst (λ ms. Thing Reads f ts ms us) e (thing h)
+pub thing_as : {A : Type 0} {Reads : List Token → A → List Token → Type 0} {f : A → Out} {ts us : List Token} {ms : Out} (a : A) → Reads ts a us → f a ≡ ms → Thing Reads f ts ms us
+thing_as {Reads} {f} {ts} {us} a h e = subst (λ ms. Thing Reads f ts ms us) e (thing h)
 
 pub thing_made : {A : Type 0} {Reads : List Token → A → List Token → Type 0} {f : A → Out} {ts us : List Token} {v : Out} → Made Reads f ts v us → Thing Reads f ts v us
-thing_made m = things_as m.thing m.read (sym m.is)
+thing_made m = thing_as m.thing m.read (sym m.is)
 
 pub made_thing : {A : Type 0} {Reads : List Token → A → List Token → Type 0} {f : A → Out} {ts us : List Token} {v : Out} → Thing Reads f ts v us → Made Reads f ts v us
 made_thing (thing {a} h) = record { thing = a; read = h; is = refl }

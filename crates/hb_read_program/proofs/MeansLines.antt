@@ -7,7 +7,6 @@ use Rattle.hb_tokens.specs.declared.word.Word.TheVariants as word
 use Rattle.hb_tree.specs.declared.types.NameAt.{NameAt}
 use Rattle.hb_tree.specs.declared.types.Sig.{Sig}
 use Rattle.hb_tree.specs.declared.statement.Bind.{Bind}
-use Rattle.hb_tree.specs.declared.declaration.Decl.{Decl}
 use Rattle.hb_tree.specs.declared.declaration.Decl.TheVariants as decl
 use Rattle.hb_grammar.specs.Reading.{Runs, stop, take}
 use Rattle.hb_grammar.specs.Tokens.{IsWord, first_place}
@@ -35,13 +34,13 @@ use Rattle.hb_read_program.specs.declared.symbol.Kind.TheVariants as kind
 use Rattle.hb_read_program.specs.declared.symbol.Symbol.TheVariants as symbol
 use Rattle.hb_read_program.specs.declared.symbol.Count.TheVariants as count
 use Rattle.hb_read_program.specs.declared.symbol.Leaf.TheVariants as leaf
-use Rattle.hb_read_program.specs.Frames.{reads_line, ATurn, turn_to, frames_of, first_at, Side, Spot, name_spot, operator_spot, close_spot, spot_if, comma_if, side_moved, side_start, sig_behind, sig_turn, expr_moved, line_nothing}
+use Rattle.hb_read_program.specs.Frames.{reads_line, ATurn, frames_of, first_at, Side, Spot, name_spot, operator_spot, close_spot, spot_if, comma_if, side_moved, side_start, sig_behind, expr_moved, line_nothing}
 use Rattle.hb_read_program.specs.declared.side.Side.TheVariants as side
 use Rattle.hb_read_program.specs.declared.side.Spot.TheVariants as spot
 use Rattle.hb_read_program.proofs.TableLaws.{leaf_known}
 use Rattle.hb_read_program.proofs.Fits.{an_eq, LineTurn, line_sig, line_still, SigTurn, sig_at, sig_of as sig_turn_of}
-use Rattle.hb_read_program.proofs.Means.{Thing, thing, closes, counted_from, After, LeafMeans, SpotReads, want_names, open_names, operator_names, named_names, SigRest, sig_rest, SideMeans, LineMeans, by_equation, by_signature, Means}
-use Rattle.hb_read_program.proofs.MeansLaws.{part, parts, same_parts, things_as, leaf_means, BehindLine}
+use Rattle.hb_read_program.proofs.Means.{Thing, thing, closes, counted_from, After, LeafMeans, want_names, open_names, operator_names, named_names, SigRest, sig_rest, SideMeans, LineMeans, by_equation, by_signature, Means}
+use Rattle.hb_read_program.proofs.MeansLaws.{part, parts, same_parts, thing_as, leaf_means, BehindLine}
 use Rattle.hb_read_program.proofs.MeansTokens.{is_word}
 use Rattle.hb_read_program.proofs.MeansLists.{counted_zero, counted_none, counted_next, cons_next, with_more}
 use Rattle.hb_read_program.proofs.MeansBlocks.{decl_before}
@@ -148,7 +147,7 @@ equation_decl : {ts us : List Token} {b : Bind} → EquationRead ts b us → Rea
 equation_decl (equation_read h) = grammar.equation h
 
 tops_equation : (n : ℕ) {ts us vs : List Token} {v ms : Out} → LeafMeans leaf.Equation ts v us → Thing (After ReadsDecls) (counted_from node.Program decl_nodes (n + 1)) us ms vs → Thing ReadsDecls (counted_from node.Program decl_nodes n) ts ((v ++ node.Equation ∷ []) ++ (ms ++ [])) vs
-tops_equation n (thing {a = b} h) (thing {a = ds} k) = things_as (decl.Equation b ∷ ds) (decl_before (equation_decl h) k) (cons_next node.Program decl_nodes n (decl.Equation b) ds)
+tops_equation n (thing {a = b} h) (thing {a = ds} k) = thing_as (decl.Equation b ∷ ds) (decl_before (equation_decl h) k) (cons_next node.Program decl_nodes n (decl.Equation b) ds)
 
 equation_run : {s : State} {ts us : List Token} {v : Out} → Some an_eq.start ≡ Some s → Runs an_eq s ts v us → LeafMeans leaf.Equation ts v us
 equation_run {ts} {us} {v} i h = leaf_means leaf.Equation ts us v ((leaf_known leaf.Equation).exact.sound (subst (λ s. Runs an_eq s ts v us) (sym (some_is i)) h))
@@ -167,7 +166,7 @@ sig_line_nodes names q p r ms e =
 tops_sig : (n : ℕ) (t : Token) {ts us vs : List Token} {v ms : Out} → SideMeans side_start (t ∷ ts) v us → Thing (After ReadsDecls) (counted_from node.Program decl_nodes (n + 1)) us ms vs → Thing ReadsDecls (counted_from node.Program decl_nodes n) (t ∷ ts) (v ++ (ms ++ [])) vs
 tops_sig n t (sig_rest {n = x} {ns} {q} (want_names h g) f i) (thing {a = ds} k) =
     let s : Sig = record { place = t.place; names = x ∷ ns; context = q.context; body = q.body } in
-    things_as (decl.Sig s ∷ ds) (decl_before (grammar.signature (grammar.sig (names_from (with_more h g)) f i)) k)
+    thing_as (decl.Sig s ∷ ds) (decl_before (grammar.signature (grammar.sig (names_from (with_more h g)) f i)) k)
     (cons_next node.Program decl_nodes n (decl.Sig s) ds ∙ sig_line_nodes (x ∷ ns) q x.place t.place (counted_from node.Program decl_nodes (n + 1) ds ++ []) (name_place h))
 
 pub tops_line : BehindLine symbol.Tops (item symbol.AfterTop count.Next ∷ [])

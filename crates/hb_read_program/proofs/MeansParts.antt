@@ -29,15 +29,15 @@ use Rattle.hb_read_declarations.proofs.Leaves.{VarRead, var_read}
 use Rattle.hb_read_declarations.proofs.Smaller.{field_names_from, infixes_from, some_vars}
 use Rattle.hb_read_declarations.proofs.Plain.{IsBar, bit_parts_from}
 use Rattle.hb_read_declarations.proofs.Blocked.{depend_list_from, preds_from}
-use Rattle.hb_read_program.specs.Rules.{heads, behind, head, mute, word_head, close_head, fits, name_in, number_in, width_in, bits_in, digit_in}
+use Rattle.hb_read_program.specs.Rules.{head, mute, word_head, close_head, fits, name_in, number_in, width_in, bits_in, digit_in}
 use Rattle.hb_read_program.specs.declared.symbol.Kind.TheVariants as kind
 use Rattle.hb_read_program.specs.declared.symbol.Put.TheVariants as put
 use Rattle.hb_read_program.specs.declared.symbol.Symbol.TheVariants as symbol
 use Rattle.hb_read_program.specs.declared.symbol.Form.TheVariants as form
 use Rattle.hb_read_program.specs.declared.symbol.Production.TheVariants as production
 use Rattle.hb_read_program.specs.Frames.{waits}
-use Rattle.hb_read_program.proofs.Means.{Thing, thing, counted_from, one_fits, closes, Optional, left_out, not_left_out, FixityRest, fixity_rest, PortRest, port_rest, BitRest, no_bits, some_bits, MoreBits, more_bits, Means}
-use Rattle.hb_read_program.proofs.MeansLaws.{part, parts, same_parts, things_as, HeadLaw, no_other, and_also, no_leaf_law, never_law, nothing_law, SymbolLaw}
+use Rattle.hb_read_program.proofs.Means.{Thing, thing, counted_from, one_fits, closes, Optional, left_out, not_left_out, FixityRest, fixity_rest, port_rest, BitRest, no_bits, some_bits, MoreBits, more_bits, Means}
+use Rattle.hb_read_program.proofs.MeansLaws.{part, parts, same_parts, thing_as, HeadLaw, no_other, and_also, no_leaf_law, never_law, nothing_law, SymbolLaw}
 use Rattle.hb_read_program.proofs.MeansTokens.{is_var, is_con, is_number, is_digit, are_bits, is_pad, is_dir, is_word, is_mark}
 use Rattle.hb_read_program.proofs.MeansLists.{counted_none, cons_next, cons_first, with_more}
 
@@ -50,7 +50,7 @@ field_of : {t s : Token} {ts us vs : List Token} {ns : List NameAt} {a : TypeExp
 field_of {t} {s} e h f k = grammar.field_decl (field_names_from (with_more (var_read (is_var t e)) h)) (is_word word.DoubleColon s f) k
 
 field_decl_head : HeadLaw symbol.FieldDecl (head kind.Var put.Name production.FieldDecl)
-field_decl_head p n t ts us ms e (then (thing {a = ns} h) (then (one_fits {t = s} f) (then (thing {a} k) (then closes nothing)))) = things_as (field_at t ns a) (field_of e h f k) refl
+field_decl_head p n t ts us ms e (then (thing {a = ns} h) (then (one_fits {t = s} f) (then (thing {a} k) (then closes nothing)))) = thing_as (field_at t ns a) (field_of e h f k) refl
 
 pub field_decl_law : SymbolLaw symbol.FieldDecl
 field_decl_law = record { by_head = and_also field_decl_head no_other; by_leaf = no_leaf_law; by_nothing = never_law }
@@ -72,10 +72,10 @@ fields_before f b ms =
 -- bits | sep(varid, ",") "::" type
 
 tag_head : HeadLaw symbol.BitPart (head kind.Bits put.Tag production.Nothing)
-tag_head p n t ts us ms e nothing = things_as (bit_part.Tag (width_in t.kind) (bits_in t.kind)) (grammar.tag (are_bits t e)) refl
+tag_head p n t ts us ms e nothing = thing_as (bit_part.Tag (width_in t.kind) (bits_in t.kind)) (grammar.tag (are_bits t e)) refl
 
 bit_fields_head : HeadLaw symbol.BitPart (head kind.Var put.Name production.BitFields)
-bit_fields_head p n t ts us ms e (then (thing {a = ns} h) (then (one_fits {t = s} f) (then (thing {a} k) (then closes (then closes nothing))))) = things_as (bit_part.Fields (field_at t ns a)) (grammar.bit_fields (field_of e h f k)) (fields_then (field_at t ns a) node.BitFields)
+bit_fields_head p n t ts us ms e (then (thing {a = ns} h) (then (one_fits {t = s} f) (then (thing {a} k) (then closes (then closes nothing))))) = thing_as (bit_part.Fields (field_at t ns a)) (grammar.bit_fields (field_of e h f k)) (fields_then (field_at t ns a) node.BitFields)
 
 pub bit_part_law : SymbolLaw symbol.BitPart
 bit_part_law = record { by_head = and_also tag_head (and_also bit_fields_head no_other); by_leaf = no_leaf_law; by_nothing = never_law }
@@ -111,10 +111,10 @@ pub more_bit_parts_law : SymbolLaw symbol.MoreBitParts
 more_bit_parts_law = record { by_head = and_also more_close (and_also more_bar no_other); by_leaf = no_leaf_law; by_nothing = never_law }
 
 bit_con_head : HeadLaw symbol.BitCon (head kind.Con put.Name production.BitCon)
-bit_con_head p n t ts us ms e (then (one_fits {t = s} f) (then (no_bits c) nothing)) = things_as (record { name = name_at t (name_in t.kind); parts = [] }) (grammar.no_bit_parts (is_con t e) (is_mark 91 s f) c) refl
+bit_con_head p n t ts us ms e (then (one_fits {t = s} f) (then (no_bits c) nothing)) = thing_as (record { name = name_at t (name_in t.kind); parts = [] }) (grammar.no_bit_parts (is_con t e) (is_mark 91 s f) c) refl
 bit_con_head p n t ts us ms e (then (one_fits {t = s} f) (then (some_bits {ps} h c) nothing)) =
     let name : NameAt = name_at t (name_in t.kind) in
-    things_as (record { name = name; parts = ps }) (grammar.bit_parts (is_con t e) (is_mark 91 s f) h c) (ap (λ m. named name ++ m) (sym (append_none (closed node.BitCon (counted bit_part_of ps)))))
+    thing_as (record { name = name; parts = ps }) (grammar.bit_parts (is_con t e) (is_mark 91 s f) h c) (ap (λ m. named name ++ m) (sym (append_none (closed node.BitCon (counted bit_part_of ps)))))
 
 pub bit_con_law : SymbolLaw symbol.BitCon
 bit_con_law = record { by_head = and_also bit_con_head no_other; by_leaf = no_leaf_law; by_nothing = never_law }
@@ -122,10 +122,10 @@ bit_con_law = record { by_head = and_also bit_con_head no_other; by_leaf = no_le
 -- sep(varid, ",") "::" type | "Pad" number
 
 gap_head : HeadLaw symbol.StructPart (mute kind.Pad production.Padding)
-gap_head p n t ts us ms e (then (one_fits {t = s} f) nothing) = things_as (struct_part.Pad (number_in s.kind)) (grammar.gap (is_pad t e) (is_number s f)) refl
+gap_head p n t ts us ms e (then (one_fits {t = s} f) nothing) = thing_as (struct_part.Pad (number_in s.kind)) (grammar.gap (is_pad t e) (is_number s f)) refl
 
 struct_fields_head : HeadLaw symbol.StructPart (head kind.Var put.Name production.StructFields)
-struct_fields_head p n t ts us ms e (then (thing {a = ns} h) (then (one_fits {t = s} f) (then (thing {a} k) (then closes (then closes nothing))))) = things_as (struct_part.Fields (field_at t ns a)) (grammar.struct_fields (field_of e h f k)) (fields_then (field_at t ns a) node.StructFields)
+struct_fields_head p n t ts us ms e (then (thing {a = ns} h) (then (one_fits {t = s} f) (then (thing {a} k) (then closes (then closes nothing))))) = thing_as (struct_part.Fields (field_at t ns a)) (grammar.struct_fields (field_of e h f k)) (fields_then (field_at t ns a) node.StructFields)
 
 pub struct_part_law : SymbolLaw symbol.StructPart
 struct_part_law = record { by_head = and_also gap_head (and_also struct_fields_head no_other); by_leaf = no_leaf_law; by_nothing = never_law }
@@ -161,14 +161,14 @@ pub optional_as : {A : Type 0} {whole : ℕ → DeclNode} {f : A → Out} {Reads
 optional_as {whole} {f} {Reads} {n} {ts} {us} xs h e = subst (λ ms. Optional whole f Reads n ts ms us) e (not_left_out h)
 
 pub filled : {A : Type 0} {whole : ℕ → DeclNode} {f : A → Out} {Reads : List Token → List A → List Token → Type 0} {ts us : List Token} {ms : Out} → ((ts : List Token) → Reads ts [] ts) → Optional whole f Reads 0 ts ms us → Thing Reads (λ xs. closed whole (counted f xs)) ts ms us
-filled none (left_out {ts}) = things_as [] (none ts) refl
-filled none (not_left_out {xs} h) = things_as xs h refl
+filled none (left_out {ts}) = thing_as [] (none ts) refl
+filled none (not_left_out {xs} h) = thing_as xs h refl
 
 -- dependencies
 
 depend_head : HeadLaw symbol.Depend (head kind.Var put.Name production.Depend)
 depend_head p n t ts us ms e (then (thing {a = ns} h) (then (one_fits {t = s} f) (then (thing (some_vars {n = b} {ns = bs} k)) (then closes nothing)))) =
-    things_as (record { from = name_at t (name_in t.kind) ∷ ns; to = b ∷ bs }) (grammar.depend (var_more (is_var t e) h) (is_word word.RightArrow s f) k) refl
+    thing_as (record { from = name_at t (name_in t.kind) ∷ ns; to = b ∷ bs }) (grammar.depend (var_more (is_var t e) h) (is_word word.RightArrow s f) k) refl
 
 pub depend_law : SymbolLaw symbol.Depend
 depend_law = record { by_head = and_also depend_head no_other; by_leaf = no_leaf_law; by_nothing = never_law }

@@ -1,5 +1,5 @@
 -- What the grammar says of a token that fits.
-use Rattle.std.proofs.Common.{◌≡◌, ℕ, ◌≤◌, true, Some, is_some, refl, sym, ap, subst, ◌∙◌}
+use Rattle.std.proofs.Common.{◌≡◌, ℕ, ◌≤◌, true, Some, is_some, refl, sym, ap, subst}
 use Rattle.hb_base.specs.declared.name.Name.{Name}
 use Rattle.hb_base.specs.declared.place.Place.{Place}
 use Rattle.hb_base.specs.declared.port.Dir.{Dir}
