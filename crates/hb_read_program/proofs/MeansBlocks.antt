@@ -60,13 +60,15 @@ abbrev sig_at : Place → List NameAt → Qualified → Sig
 sig_at p names q = record { place = p; names = names; context = q.context; body = q.body }
 
 sigs_nodes : (n : ℕ) (p : Place) (names : List NameAt) (q : Qualified) (sigs : List Sig) → counted_from node.Sigs sig_of n (sig_at p names q ∷ sigs) ≡ names_of names ++ (qualified_of q ++ node.Sig p ∷ (counted_from node.Sigs sig_of (n + 1) sigs ++ []))
-sigs_nodes n p names q sigs = cons_next node.Sigs sig_of n (sig_at p names q) sigs ∙ sig_nodes names q p (counted_from node.Sigs sig_of (n + 1) sigs ++ [])
+sigs_nodes n p names q sigs =
+    cons_next node.Sigs sig_of n (sig_at p names q) sigs ∙ sig_nodes names q p (counted_from node.Sigs sig_of (n + 1) sigs ++ [])
 
 sigs_close : HeadLaw symbol.Sigs (close_head 125 form.Sigs)
 sigs_close p n t ts us ms e nothing = thing_as [] (grammar.no_sig (is_mark 125 t e)) (counted_none node.Sigs sig_of n)
 
 sigs_semicolon : HeadLaw symbol.Sigs (mark_head 59 production.Sigs)
-sigs_semicolon p n t ts us ms e (then (thing {a} h) nothing) = thing_as a (grammar.empty_sig (is_mark 59 t e) h) (same_behind node.Sigs sig_of n a)
+sigs_semicolon p n t ts us ms e (then (thing {a} h) nothing) =
+    thing_as a (grammar.empty_sig (is_mark 59 t e) h) (same_behind node.Sigs sig_of n a)
 
 sigs_var : HeadLaw symbol.Sigs (head kind.Var put.Name production.SigNames)
 sigs_var p n t ts us ms e (then (thing {a = ns} h) (then (one_fits {t = s} f) (then (thing {a = q} k) (then closes (then (thing {a = sigs} l) nothing))))) =
@@ -83,19 +85,23 @@ sigs_op p n t ts us ms e (then (one_fits {t = o} d) (then (one_fits {t = c} g) (
     (sigs_nodes n t.place (name ∷ ns) q sigs)
 
 pub sigs_law : SymbolLaw symbol.Sigs
-sigs_law = record { by_head = and_also sigs_close (and_also sigs_semicolon (and_also sigs_var (and_also sigs_op no_other))); by_leaf = no_leaf_law; by_nothing = never_law }
+sigs_law =
+    record { by_head = and_also sigs_close (and_also sigs_semicolon (and_also sigs_var (and_also sigs_op no_other))); by_leaf = no_leaf_law; by_nothing = never_law }
 
 sig_close : HeadLaw symbol.AfterSig (close_head 125 form.Sigs)
 sig_close p n t ts us ms e nothing = thing_as [] (after_close (is_mark 125 t e)) (counted_none node.Sigs sig_of n)
 
 sig_semicolon : HeadLaw symbol.AfterSig (mark_head 59 production.Sigs)
-sig_semicolon p n t ts us ms e (then (thing {a} h) nothing) = thing_as a (after_semicolon (is_mark 59 t e) h) (same_behind node.Sigs sig_of n a)
+sig_semicolon p n t ts us ms e (then (thing {a} h) nothing) =
+    thing_as a (after_semicolon (is_mark 59 t e) h) (same_behind node.Sigs sig_of n a)
 
 pub after_sig_law : SymbolLaw symbol.AfterSig
-after_sig_law = record { by_head = and_also sig_close (and_also sig_semicolon no_other); by_leaf = no_leaf_law; by_nothing = never_law }
+after_sig_law =
+    record { by_head = and_also sig_close (and_also sig_semicolon no_other); by_leaf = no_leaf_law; by_nothing = never_law }
 
 methods_head : HeadLaw symbol.Methods (word_head word.Where production.Methods)
-methods_head p n t ts us ms e (then (one_fits {t = s} f) (then (thing {a} h) nothing)) = optional_as a (grammar.methods (is_word word.Where t e) (is_mark 123 s f) h) (zero_behind node.Sigs sig_of a)
+methods_head p n t ts us ms e (then (one_fits {t = s} f) (then (thing {a} h) nothing)) =
+    optional_as a (grammar.methods (is_word word.Where t e) (is_mark 123 s f) h) (zero_behind node.Sigs sig_of a)
 
 methods_nothing : (p : Place) (n : ℕ) (ts : List Token) → Means (waits symbol.Methods p n) ts (node.Sigs n ∷ []) ts
 methods_nothing p n ts = left_out
@@ -113,25 +119,31 @@ rows_close : HeadLaw symbol.Rows (close_head 125 form.Equations)
 rows_close p n t ts us ms e nothing = thing_as [] (no_thing (is_mark 125 t e)) (counted_none node.Equations bind_of n)
 
 rows_semicolon : HeadLaw symbol.Rows (mark_head 59 production.Rows)
-rows_semicolon p n t ts us ms e (then (thing {a} h) nothing) = thing_as a (empty_thing (is_mark 59 t e) h) (same_behind node.Equations bind_of n a)
+rows_semicolon p n t ts us ms e (then (thing {a} h) nothing) =
+    thing_as a (empty_thing (is_mark 59 t e) h) (same_behind node.Equations bind_of n a)
 
 rows_equation : BehindLeaf symbol.Rows leaf.Equation (item symbol.AfterRow count.Next ∷ [])
-rows_equation p n t ts us vs v ms (thing {a} h) (then (thing {a = rows} k) nothing) = thing_as (a ∷ rows) (row_before h k) (cons_next node.Equations bind_of n a rows)
+rows_equation p n t ts us vs v ms (thing {a} h) (then (thing {a = rows} k) nothing) =
+    thing_as (a ∷ rows) (row_before h k) (cons_next node.Equations bind_of n a rows)
 
 pub rows_law : SymbolLaw symbol.Rows
-rows_law = record { by_head = and_also rows_close (and_also rows_semicolon no_other); by_leaf = leaf_law rows_equation; by_nothing = never_law }
+rows_law =
+    record { by_head = and_also rows_close (and_also rows_semicolon no_other); by_leaf = leaf_law rows_equation; by_nothing = never_law }
 
 row_close : HeadLaw symbol.AfterRow (close_head 125 form.Equations)
 row_close p n t ts us ms e nothing = thing_as [] (after_close (is_mark 125 t e)) (counted_none node.Equations bind_of n)
 
 row_semicolon : HeadLaw symbol.AfterRow (mark_head 59 production.Rows)
-row_semicolon p n t ts us ms e (then (thing {a} h) nothing) = thing_as a (after_semicolon (is_mark 59 t e) h) (same_behind node.Equations bind_of n a)
+row_semicolon p n t ts us ms e (then (thing {a} h) nothing) =
+    thing_as a (after_semicolon (is_mark 59 t e) h) (same_behind node.Equations bind_of n a)
 
 pub after_row_law : SymbolLaw symbol.AfterRow
-after_row_law = record { by_head = and_also row_close (and_also row_semicolon no_other); by_leaf = no_leaf_law; by_nothing = never_law }
+after_row_law =
+    record { by_head = and_also row_close (and_also row_semicolon no_other); by_leaf = no_leaf_law; by_nothing = never_law }
 
 body_head : HeadLaw symbol.Body (word_head word.Where production.Body)
-body_head p n t ts us ms e (then (one_fits {t = s} f) (then (thing {a} h) nothing)) = optional_as a (grammar.body (is_word word.Where t e) (expressions.binds (is_mark 123 s f) (binds_from h))) (zero_behind node.Equations bind_of a)
+body_head p n t ts us ms e (then (one_fits {t = s} f) (then (thing {a} h) nothing)) =
+    optional_as a (grammar.body (is_word word.Where t e) (expressions.binds (is_mark 123 s f) (binds_from h))) (zero_behind node.Equations bind_of a)
 
 body_nothing : (p : Place) (n : ℕ) (ts : List Token) → Means (waits symbol.Body p n) ts (node.Equations n ∷ []) ts
 body_nothing p n ts = left_out
@@ -149,13 +161,16 @@ pub tops_close : HeadLaw symbol.Tops (close_head 125 form.Program)
 tops_close p n t ts us ms e nothing = thing_as [] (grammar.no_decl (is_mark 125 t e)) (counted_none node.Program decl_nodes n)
 
 pub tops_semicolon : HeadLaw symbol.Tops (mark_head 59 production.Tops)
-tops_semicolon p n t ts us ms e (then (thing {a} h) nothing) = thing_as a (grammar.empty_decl (is_mark 59 t e) h) (same_behind node.Program decl_nodes n a)
+tops_semicolon p n t ts us ms e (then (thing {a} h) nothing) =
+    thing_as a (grammar.empty_decl (is_mark 59 t e) h) (same_behind node.Program decl_nodes n a)
 
 top_close : HeadLaw symbol.AfterTop (close_head 125 form.Program)
 top_close p n t ts us ms e nothing = thing_as [] (after_close (is_mark 125 t e)) (counted_none node.Program decl_nodes n)
 
 top_semicolon : HeadLaw symbol.AfterTop (mark_head 59 production.Tops)
-top_semicolon p n t ts us ms e (then (thing {a} h) nothing) = thing_as a (after_semicolon (is_mark 59 t e) h) (same_behind node.Program decl_nodes n a)
+top_semicolon p n t ts us ms e (then (thing {a} h) nothing) =
+    thing_as a (after_semicolon (is_mark 59 t e) h) (same_behind node.Program decl_nodes n a)
 
 pub after_top_law : SymbolLaw symbol.AfterTop
-after_top_law = record { by_head = and_also top_close (and_also top_semicolon no_other); by_leaf = no_leaf_law; by_nothing = never_law }
+after_top_law =
+    record { by_head = and_also top_close (and_also top_semicolon no_other); by_leaf = no_leaf_law; by_nothing = never_law }

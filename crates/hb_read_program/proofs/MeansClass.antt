@@ -44,7 +44,8 @@ heading_null : (h : Heading) {ns : Out} (ts : List Token) → class_nothing h �
 heading_null heading.Gone ts e = cc
 heading_null heading.Before ts e = cc
 heading_null (heading.Names zero out) ts e = cc
-heading_null (heading.Names (suc k) out) ts e = heading_as (ap (λ m. no_context ++ (out ++ m)) (counted_none node.Names named (suc k)) ∙ some_is e) (among_names grammar.no_var refl)
+heading_null (heading.Names (suc k) out) ts e =
+    heading_as (ap (λ m. no_context ++ (out ++ m)) (counted_none node.Names named (suc k)) ∙ some_is e) (among_names grammar.no_var refl)
 
 pub class_null : (c : Option ContextReader) (h : Heading) {ns : Out} (ts : List Token) → class_nothing h ≡ Some ns → ClassMeans c h ts ns ts
 class_null c h ts e = by_heading (heading_null h ts e)
@@ -63,10 +64,13 @@ arrow_back c h t out d e (then (one_fits {t = s} f) (then (thing {a = ns} k) not
 -- a token of the head
 
 con_name : (t : Token) (n : NameAt) {us : List Token} → con t ≡ Some n → ConRead (t ∷ us) n us
-con_name t n {us} e = let c = con_of {t = t} e in let P : NameAt → Type 0 = λ n. ConRead (t ∷ us) n us in subst P (sym c.1) (con_read c.0)
+con_name t n {us} e =
+    let c = con_of {t = t} e in let P : NameAt → Type 0 = λ n. ConRead (t ∷ us) n us in subst P (sym c.1) (con_read c.0)
 
 more_names : (t : Token) (n : NameAt) {ts us : List Token} {ns : List NameAt} → var t ≡ Some n → ReadsVars ts ns us → ReadsVars (t ∷ ts) (n ∷ ns) us
-more_names t n {ts} {us} {ns} e h = let v = var_of {t = t} e in let P : NameAt → Type 0 = λ n. ReadsVars (t ∷ ts) (n ∷ ns) us in subst P (sym v.is_at) (var_more v.is_var h)
+more_names t n {ts} {us} {ns} e h =
+    let v = var_of {t = t} e in
+    let P : NameAt → Type 0 = λ n. ReadsVars (t ∷ ts) (n ∷ ns) us in subst P (sym v.is_at) (var_more v.is_var h)
 
 some_names : (ns : List NameAt) {ts us : List Token} → ReadsVars ts ns us → has_names 0 ns ≡ true → SomeVars ts ns us
 some_names [] h e = cc
@@ -81,7 +85,8 @@ gone_heading h = elim h [ ]
 
 first_back : (t : Token) (o : Option NameAt) {ts us : List Token} {ms : Out} → con t ≡ o → HeadingMeans (first_heading o) ts ms us → HeadingMeans heading.Before (t ∷ ts) ms us
 first_back t None e h = gone_heading h
-first_back t (Some n) e (among_names {ns} h g) = heading_as (ap (λ m. no_context ++ (named n ++ m)) (sym (counted_zero node.Names named ns))) (before_names (con_name t n e) (some_names ns h g))
+first_back t (Some n) e (among_names {ns} h g) =
+    heading_as (ap (λ m. no_context ++ (named n ++ m)) (sym (counted_zero node.Names named ns))) (before_names (con_name t n e) (some_names ns h g))
 
 next_back : (k : ℕ) (out : Out) (t : Token) (o : Option NameAt) {ts us : List Token} {ms : Out} → var t ≡ o → HeadingMeans (next_heading k out o) ts ms us → HeadingMeans (heading.Names k out) (t ∷ ts) ms us
 next_back k out t None e h = gone_heading h
@@ -108,19 +113,25 @@ one_class : {c : Option ContextReader} {h : Heading} {ts us : List Token} {ms : 
 one_class (then {ms} h nothing) = class_as (sym (append_none ms)) h
 
 pub class_turns : (c : Option ContextReader) (h : Heading) (t : Token) {x : ATurn} {ts us : List Token} {ms : Out} → ClassTurn c h t x → All Means x.frames ts ms us → ClassMeans c h (t ∷ ts) (x.nodes ++ ms) us
-class_turns c h t {ts} {us} {ms} (class_arrow out d e i) = let P : ATurn → Type 0 = λ y. All Means y.frames ts ms us → ClassMeans c h (t ∷ ts) (y.nodes ++ ms) us in subst P i (λ a. arrow_back c h t out d e a)
-class_turns c h t {ts} {us} {ms} (class_still g i) = let P : ATurn → Type 0 = λ y. All Means y.frames ts ms us → ClassMeans c h (t ∷ ts) (y.nodes ++ ms) us in subst P i (λ a. class_back c h t (one_class a))
+class_turns c h t {ts} {us} {ms} (class_arrow out d e i) =
+    let P : ATurn → Type 0 = λ y. All Means y.frames ts ms us → ClassMeans c h (t ∷ ts) (y.nodes ++ ms) us in
+    subst P i (λ a. arrow_back c h t out d e a)
+class_turns c h t {ts} {us} {ms} (class_still g i) =
+    let P : ATurn → Type 0 = λ y. All Means y.frames ts ms us → ClassMeans c h (t ∷ ts) (y.nodes ++ ms) us in
+    subst P i (λ a. class_back c h t (one_class a))
 
 -- [context "=>"] conid varid+
 
 head_with : {v : Out} {x : Token} {n : NameAt} {ns : List NameAt} {ts us vs ws : List Token} → Made ReadsContext context_of ts v (x ∷ us) → IsWord word.DoubleArrow x → ConRead us n vs → SomeVars vs ns ws → Thing ClassHeadRead class_head_of ts (v ++ (named n ++ names_of ns)) ws
-head_with {n} {ns} m f g k = thing_as (record { context = m.thing; name = n; params = ns }) (class_head (grammar.supers m.read f) g k) (ap (λ v. v ++ (named n ++ names_of ns)) (sym m.is))
+head_with {n} {ns} m f g k =
+    thing_as (record { context = m.thing; name = n; params = ns }) (class_head (grammar.supers m.read f) g k) (ap (λ v. v ++ (named n ++ names_of ns)) (sym m.is))
 
 context_run : {s : ContextReader} {ts us : List Token} {v : Out} → Some a_context.start ≡ Some s → Runs a_context s ts v us → Made ReadsContext context_of ts v us
 context_run {ts} {us} {v} i h = context_fine.exact.sound (subst (λ s. Runs a_context s ts v us) (sym (some_is i)) h)
 
 head_alone : {ts us : List Token} {ms : Out} → HeadingMeans heading.Before ts ms us → Thing ClassHeadRead class_head_of ts ms us
-head_alone (before_names {n} {ns} g k) = thing_as (record { context = []; name = n; params = ns }) (class_head grammar.no_supers g k) refl
+head_alone (before_names {n} {ns} g k) =
+    thing_as (record { context = []; name = n; params = ns }) (class_head grammar.no_supers g k) refl
 
 head_class : {ts us : List Token} {ms : Out} → ClassMeans (Some a_context.start) heading.Before ts ms us → Thing ClassHeadRead class_head_of ts ms us
 head_class (by_context i m f g k) = head_with (context_run i m) f g k

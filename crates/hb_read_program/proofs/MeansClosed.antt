@@ -30,7 +30,8 @@ use Rattle.hb_read_program.proofs.MeansDecls.{tops_law, program_law}
 -- one token, a reader of its own, and a node
 
 one_head : (k : Kind) (q : Put) → HeadLaw (symbol.One k q) (head k q production.Nothing)
-one_head k q p n t ts us ms e nothing = subst (λ ms. OneToken k q p n (t ∷ ts) ms ts) (sym (append_none (put_out q p n t))) (one_fits e)
+one_head k q p n t ts us ms e nothing =
+    subst (λ ms. OneToken k q p n (t ∷ ts) ms ts) (sym (append_none (put_out q p n t))) (one_fits e)
 
 one_law : (k : Kind) (q : Put) → SymbolLaw (symbol.One k q)
 one_law k q = record { by_head = and_also (one_head k q) no_other; by_leaf = no_leaf_law; by_nothing = never_law }
@@ -97,7 +98,8 @@ frame_null (reads_class c h) ns ts e = class_null c h ts e
 -- a frame that takes a token
 
 leaf_taken : (s : Symbol) (l : Leaf) (is : List Item) (p : Place) (n : ℕ) (t : Token) {r : LeafState l} {ts vs : List Token} {ms : Out} → BehindLeaf s l is → (leaf_reader l).move (leaf_reader l).start t ≡ Some r → All Means (reads l r ∷ frames_of is t.place n t) ts ms vs → Means (waits s p n) (t ∷ ts) ms vs
-leaf_taken s l is p n t {ts} {vs} k e (then {ms} {ls} {us} h g) = k p n t ts us vs ms ls (leaf_means l (t ∷ ts) us ms ((leaf_known l).exact.sound (take e h))) g
+leaf_taken s l is p n t {ts} {vs} k e (then {ms} {ls} {us} h g) =
+    k p n t ts us vs ms ls (leaf_means l (t ∷ ts) us ms ((leaf_known l).exact.sound (take e h))) g
 
 leaf_begun : (s : Symbol) (l : Leaf) (is : List Item) (p : Place) (n : ℕ) (t : Token) {x : ATurn} {ts us : List Token} {ms : Out} → BehindLeaf s l is → (o : Option (LeafState l)) → (leaf_reader l).move (leaf_reader l).start t ≡ o → begun l o (frames_of is t.place n t) ≡ Some x → All Means x.frames ts ms us → Means (waits s p n) (t ∷ ts) (x.nodes ++ ms) us
 leaf_begun s l is p n t k None d e = cc
@@ -120,7 +122,8 @@ leaf_turns : (s : Symbol) {b : Begins} (p : Place) (n : ℕ) (t : Token) {x : AT
 leaf_turns s p n t no_leaf_law e = cc
 leaf_turns s p n t (leaf_law {l} {is} k) e = leaf_begun s l is p n t k ((leaf_reader l).move (leaf_reader l).start t) refl e
 leaf_turns s p n t (line_law {is} k) e = line_begun s is p n t k (line_turn (Some an_eq.start) side_start t) refl e
-leaf_turns s p n t {x} {ts} {us} {ms} (class_law k) e = λ a. k p n (t ∷ ts) us (x.nodes ++ ms) (class_turns (Some a_context.start) heading.Before t (class_of (Some a_context.start) heading.Before t e) a)
+leaf_turns s p n t {x} {ts} {us} {ms} (class_law k) e =
+    λ a. k p n (t ∷ ts) us (x.nodes ++ ms) (class_turns (Some a_context.start) heading.Before t (class_of (Some a_context.start) heading.Before t e) a)
 
 head_turns : (s : Symbol) (p : Place) (n : ℕ) (t : Token) {h : Head} {x : ATurn} {ts us : List Token} {ms : Out} → Picked (HeadLaw s) t h → head_turn (Some h) s p n t ≡ Some x → All Means x.frames ts ms us → Means (waits s p n) (t ∷ ts) (x.nodes ++ ms) us
 head_turns s p n t {ts} {us} {ms} k e =
@@ -132,7 +135,8 @@ symbol_turns s p n t None d e = leaf_turns s p n t (symbol_law s).by_leaf e
 symbol_turns s p n t (Some h) d e = head_turns s p n t (picked t (symbol_law s).by_head d) e
 
 read_taken : {l : Leaf} {s : LeafState l} (t : Token) {r : LeafState l} {ts us : List Token} {ms : Out} → (leaf_reader l).move s t ≡ Some r → All Means (reads l r ∷ []) ts ms us → Means (reads l s) (t ∷ ts) ms us
-read_taken {l} {s} t {ts} {us} e (then {ms} h nothing) = subst (λ ms. Means (reads l s) (t ∷ ts) ms us) (sym (append_none ms)) (take e h)
+read_taken {l} {s} t {ts} {us} e (then {ms} h nothing) =
+    subst (λ ms. Means (reads l s) (t ∷ ts) ms us) (sym (append_none ms)) (take e h)
 
 read_turns : (l : Leaf) (s : LeafState l) (t : Token) (o : Option (LeafState l)) {x : ATurn} {ts us : List Token} {ms : Out} → (leaf_reader l).move s t ≡ o → begun l o [] ≡ Some x → All Means x.frames ts ms us → Means (reads l s) (t ∷ ts) (x.nodes ++ ms) us
 read_turns l s t None d e = cc

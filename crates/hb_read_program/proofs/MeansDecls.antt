@@ -41,10 +41,12 @@ use Rattle.hb_read_program.proofs.MeansLines.{tops_line}
 -- nodes of a declaration, and what is behind them
 
 three_before : (a b c : Out) (d : DeclNode) (ms : Out) → ((a ++ (b ++ c)) ++ d ∷ []) ++ ms ≡ a ++ (b ++ (c ++ d ∷ ms))
-three_before a b c d ms = same_parts (parts (parts (parts (part a) (parts (part b) (part c))) (part (d ∷ []))) (part ms)) (parts (part a) (parts (part b) (parts (part c) (part (d ∷ ms))))) refl
+three_before a b c d ms =
+    same_parts (parts (parts (parts (part a) (parts (part b) (part c))) (part (d ∷ []))) (part ms)) (parts (part a) (parts (part b) (parts (part c) (part (d ∷ ms))))) refl
 
 four_before : (a b c d : Out) (e : DeclNode) (ms : Out) → ((a ++ (b ++ (c ++ d))) ++ e ∷ []) ++ ms ≡ a ++ (b ++ (c ++ (d ++ e ∷ ms)))
-four_before a b c d e ms = same_parts (parts (parts (parts (part a) (parts (part b) (parts (part c) (part d)))) (part (e ∷ []))) (part ms)) (parts (part a) (parts (part b) (parts (part c) (parts (part d) (part (e ∷ ms)))))) refl
+four_before a b c d e ms =
+    same_parts (parts (parts (parts (part a) (parts (part b) (parts (part c) (part d)))) (part (e ∷ []))) (part ms)) (parts (part a) (parts (part b) (parts (part c) (parts (part d) (part (e ∷ ms)))))) refl
 
 -- some things behind two parts
 things_before : {A : Type 0} (whole : ℕ → DeclNode) (f : A → Out) (a b : Out) (x : A) (xs : List A) (d : DeclNode) (ms : Out) → ((a ++ (b ++ closed whole (counted f (x ∷ xs)))) ++ d ∷ []) ++ ms ≡ a ++ (b ++ (f x ++ (counted_from whole f 1 xs ++ d ∷ ms)))
@@ -61,7 +63,8 @@ decl_as n d ds h k e = thing_as (d ∷ ds) (decl_before h k) (cons_next node.Pro
 -- each form of a declaration
 
 tops_fixity : (fix : Fix) → HeadLaw symbol.Tops (word_head (fix_word fix) (production.Fixity fix))
-tops_fixity fix p n t ts us ms e (then (fixity_rest {k} {names} d l h) (then (thing {a = ds} a) nothing)) = decl_as n (decl.Fixity t.place fix k names) ds (grammar.fixity (is_word (fix_word fix) t e) d l h) a refl
+tops_fixity fix p n t ts us ms e (then (fixity_rest {k} {names} d l h) (then (thing {a = ds} a) nothing)) =
+    decl_as n (decl.Fixity t.place fix k names) ds (grammar.fixity (is_word (fix_word fix) t e) d l h) a refl
 
 tops_data : HeadLaw symbol.Tops (word_head word.Data production.Data)
 tops_data p n t ts us ms e (then (one_fits {t = s} f) (then (thing {a = params} h) (then (one_fits {t = r} g) (then (thing {a = c} i) (then (thing {a = cs} j) (then closes (then (thing {a = ds} a) nothing))))))) =
@@ -103,7 +106,8 @@ class_then n {t} d (thing {a = c} h) (thing {a = ds} k) (thing {a = sigs} l) (th
     (three_before (class_head_of c) (closed node.Depends (counted depend_of ds)) (closed node.Sigs (counted sig_of sigs)) (node.Class t.place) (rest_of n rest))
 
 tops_class : HeadLaw symbol.Tops (word_head word.Class production.Class)
-tops_class p n t ts us ms e (then c (then d (then m (then closes (then a nothing))))) = class_then n (is_word word.Class t e) c (filled (λ ts. grammar.no_depends) d) (filled (λ ts. grammar.no_methods) m) a
+tops_class p n t ts us ms e (then c (then d (then m (then closes (then a nothing))))) =
+    class_then n (is_word word.Class t e) c (filled (λ ts. grammar.no_depends) d) (filled (λ ts. grammar.no_methods) m) a
 
 -- instances
 
@@ -117,7 +121,8 @@ instance_then n {t} {s} d e (thing {a = args} h) (thing {a = ps} k) (thing {a = 
     (four_before (named name) (args_of args) (closed context_whole (counted pred_of ps)) (closed node.Equations (counted bind_of rows)) (node.Instance t.place) (rest_of n rest))
 
 tops_instance : HeadLaw symbol.Tops (word_head word.Instance production.Instance)
-tops_instance p n t ts us ms e (then (one_fits {t = s} f) (then h (then c (then b (then closes (then a nothing)))))) = instance_then n (is_word word.Instance t e) (is_con s f) h (filled (λ ts. grammar.no_conditions) c) (filled (λ ts. grammar.no_body) b) a
+tops_instance p n t ts us ms e (then (one_fits {t = s} f) (then h (then c (then b (then closes (then a nothing)))))) =
+    instance_then n (is_word word.Instance t e) (is_con s f) h (filled (λ ts. grammar.no_conditions) c) (filled (λ ts. grammar.no_body) b) a
 
 -- any declaration, and a program
 

@@ -43,7 +43,8 @@ first_field d e h (next_field {r} b v w i k) = put_field r d e h b (first_field 
 -- varid "<-" init
 
 field_head : HeadLaw symbol.FieldInit (head kind.Var put.Name production.FieldInit)
-field_head p n t ts us ms e (then (one_fits {t = s} f) (then (thing h) (then closes nothing))) = field_means (is_var t e) (is_word word.LeftArrow s f) h
+field_head p n t ts us ms e (then (one_fits {t = s} f) (then (thing h) (then closes nothing))) =
+    field_means (is_var t e) (is_word word.LeftArrow s f) h
 
 pub field_law : SymbolLaw symbol.FieldInit
 field_law = record { by_head = and_also field_head no_other; by_leaf = no_leaf_law; by_nothing = never_law }
@@ -51,7 +52,8 @@ field_law = record { by_head = and_also field_head no_other; by_leaf = no_leaf_l
 -- more fields
 
 fields_close : HeadLaw symbol.MoreInits (close_head 93 form.InitFields)
-fields_close p n t ts us ms e nothing = thing_as NoFieldInits (no_fields (is_mark 93 t e)) (ap (λ k. node.InitFields p k ∷ []) (plus_none n))
+fields_close p n t ts us ms e nothing =
+    thing_as NoFieldInits (no_fields (is_mark 93 t e)) (ap (λ k. node.InitFields p k ∷ []) (plus_none n))
 
 next_nodes : (p : Place) (n : ℕ) (name : NameAt) (i : InitExpr) (fs : FieldInits) → fields_from p n (MoreFieldInits name i fs) ≡ (named name ++ (init_nodes i ++ node.InitField ∷ [])) ++ (fields_from p (n + 1) fs ++ [])
 next_nodes p n name i fs =
@@ -60,15 +62,18 @@ next_nodes p n name i fs =
     ∙ (ap (λ k. x ++ (field_init_nodes fs ++ node.InitFields p k ∷ [])) (sym (next_count n (fields_count fs))) ∙ ap (λ m. x ++ m) (sym (append_none (fields_from p (n + 1) fs))))
 
 fields_bar : HeadLaw symbol.MoreInits (word_head word.Bar production.MoreInits)
-fields_bar p n t ts us ms e (then (field_means {t = s} {name} {i} d f h) (then (thing {a = fs} k) nothing)) = thing_as (MoreFieldInits (name_at s name) i fs) (next_field (is_word word.Bar t e) d f h k) (next_nodes p n (name_at s name) i fs)
+fields_bar p n t ts us ms e (then (field_means {t = s} {name} {i} d f h) (then (thing {a = fs} k) nothing)) =
+    thing_as (MoreFieldInits (name_at s name) i fs) (next_field (is_word word.Bar t e) d f h k) (next_nodes p n (name_at s name) i fs)
 
 pub more_inits_law : SymbolLaw symbol.MoreInits
-more_inits_law = record { by_head = and_also fields_close (and_also fields_bar no_other); by_leaf = no_leaf_law; by_nothing = never_law }
+more_inits_law =
+    record { by_head = and_also fields_close (and_also fields_bar no_other); by_leaf = no_leaf_law; by_nothing = never_law }
 
 -- init
 
 init_each : HeadLaw symbol.Init (word_head word.Each production.Each)
-init_each p n t ts us ms e (then (one_fits {t = s} f) (then (one_fits {t = r} g) (then (thing {a = i} h) (then closes nothing)))) = thing_as (Each t.place (name_at s (name_in s.kind)) i) (grammar.each (is_word word.Each t e) (is_var s f) (is_word word.RightArrow r g) h) refl
+init_each p n t ts us ms e (then (one_fits {t = s} f) (then (one_fits {t = r} g) (then (thing {a = i} h) (then closes nothing)))) =
+    thing_as (Each t.place (name_at s (name_in s.kind)) i) (grammar.each (is_word word.Each t e) (is_var s f) (is_word word.RightArrow r g) h) refl
 
 first_nodes : (p : Place) (name : NameAt) (i : InitExpr) (fs : FieldInits) → init_nodes (Fields p (MoreFieldInits name i fs)) ≡ (named name ++ (init_nodes i ++ node.InitField ∷ [])) ++ (fields_from p 1 fs ++ [])
 first_nodes p name i fs =
@@ -86,12 +91,14 @@ init_cell : BehindLeaf symbol.Init leaf.Expr (closing form.InitCell ∷ [])
 init_cell p n t ts us vs v ms (thing {a = e} h) (then closes nothing) = thing_as (Cell t.place e) (grammar.cell h) refl
 
 pub init_law : SymbolLaw symbol.Init
-init_law = record { by_head = and_also init_each (and_also init_fields no_other); by_leaf = leaf_law init_cell; by_nothing = never_law }
+init_law =
+    record { by_head = and_also init_each (and_also init_fields no_other); by_leaf = leaf_law init_cell; by_nothing = never_law }
 
 -- ["<-" init]
 
 start_init : HeadLaw symbol.Start (word_head word.LeftArrow production.Start)
-start_init p n t ts us ms e (then (thing {a = i} h) (then closes nothing)) = thing_as (Some i) (grammar.start (is_word word.LeftArrow t e) h) refl
+start_init p n t ts us ms e (then (thing {a = i} h) (then closes nothing)) =
+    thing_as (Some i) (grammar.start (is_word word.LeftArrow t e) h) refl
 
 start_nothing : (p : Place) (n : ℕ) (ts : List Token) → Means (waits symbol.Start p n) ts (node.NoInit ∷ []) ts
 start_nothing p n ts = thing_as None grammar.no_start refl

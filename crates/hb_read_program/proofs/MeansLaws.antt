@@ -31,7 +31,8 @@ flat (parts a b) ys = flat a (flat b ys)
 
 flat_is : (a : Parts) (ys : Out) → joined a ++ ys ≡ flat a ys
 flat_is (part xs) ys = refl
-flat_is (parts a b) ys = append_assoc (joined a) (joined b) ys ∙ (ap (λ zs. joined a ++ zs) (flat_is b ys) ∙ flat_is a (flat b ys))
+flat_is (parts a b) ys =
+    append_assoc (joined a) (joined b) ys ∙ (ap (λ zs. joined a ++ zs) (flat_is b ys) ∙ flat_is a (flat b ys))
 
 pub same_parts : (a b : Parts) → flat a [] ≡ flat b [] → joined a ≡ joined b
 same_parts a b e = sym (append_none (joined a)) ∙ (flat_is a [] ∙ (e ∙ (sym (flat_is b []) ∙ append_none (joined b))))
@@ -58,7 +59,8 @@ leaf_means leaf.Equation ts us v m = thing_made m
 -- the laws of a symbol
 
 abbrev pub HeadLaw : Symbol → Head → Type 0
-HeadLaw s h = (p : Place) (n : ℕ) (t : Token) (ts us : List Token) (ms : Out) → fits h.kind t ≡ true → All Means (frames_of (behind h.behind) (place_of s p t) n t) ts ms us → Means (waits s p n) (t ∷ ts) (put_out h.put p n t ++ ms) us
+HeadLaw s h =
+    (p : Place) (n : ℕ) (t : Token) (ts us : List Token) (ms : Out) → fits h.kind t ≡ true → All Means (frames_of (behind h.behind) (place_of s p t) n t) ts ms us → Means (waits s p n) (t ∷ ts) (put_out h.put p n t ++ ms) us
 
 pub data Each (P : Head → Type 0) : List Head → Type 0 where
   no_other : Each P []
@@ -66,10 +68,12 @@ pub data Each (P : Head → Type 0) : List Head → Type 0 where
 
 -- behind a reader of its own, and behind the first line of a signature or an equation
 abbrev pub BehindLeaf : Symbol → Leaf → List Item → Type 0
-BehindLeaf s l is = (p : Place) (n : ℕ) (t : Token) (ts us vs : List Token) (v ms : Out) → LeafMeans l (t ∷ ts) v us → All Means (frames_of is t.place n t) us ms vs → Means (waits s p n) (t ∷ ts) (v ++ ms) vs
+BehindLeaf s l is =
+    (p : Place) (n : ℕ) (t : Token) (ts us vs : List Token) (v ms : Out) → LeafMeans l (t ∷ ts) v us → All Means (frames_of is t.place n t) us ms vs → Means (waits s p n) (t ∷ ts) (v ++ ms) vs
 
 abbrev pub BehindLine : Symbol → List Item → Type 0
-BehindLine s is = (p : Place) (n : ℕ) (t : Token) (ts us vs : List Token) (v ms : Out) → LineMeans (Some an_eq.start) side_start (t ∷ ts) v us → All Means (frames_of is t.place n t) us ms vs → Means (waits s p n) (t ∷ ts) (v ++ ms) vs
+BehindLine s is =
+    (p : Place) (n : ℕ) (t : Token) (ts us vs : List Token) (v ms : Out) → LineMeans (Some an_eq.start) side_start (t ∷ ts) v us → All Means (frames_of is t.place n t) us ms vs → Means (waits s p n) (t ∷ ts) (v ++ ms) vs
 
 pub data LeafLaw (s : Symbol) : Begins → Type 0 where
   no_leaf_law : LeafLaw s no_leaf

@@ -70,19 +70,23 @@ last_name_nodes p k out n q =
     ∙ same_parts (parts (part out) (parts (parts (part (named n)) whole) rest)) (parts (parts (parts (part out) (part (named n))) whole) rest) refl
 
 colons_back : (p : Place) (k : ℕ) (out : Out) (n : NameAt) (t : Token) {ts us : List Token} {ms : Out} → IsWord word.DoubleColon t → All Means (frames_of sig_behind (first_at k p n) 0 t) ts ms us → SigRest p k out (spot.Named n) (t ∷ ts) (((out ++ named n) ++ node.Names (k + 1) ∷ []) ++ ms) us
-colons_back p k out n t f (then (thing {a = q} h) (then closes nothing)) = sig_as (last_name_nodes (first_at k p n) k out n q) (sig_rest (named_names nothing_more) f h)
+colons_back p k out n t f (then (thing {a = q} h) (then closes nothing)) =
+    sig_as (last_name_nodes (first_at k p n) k out n q) (sig_rest (named_names nothing_more) f h)
 
 -- a token of the names
 
 var_name : (t : Token) (n : NameAt) {us : List Token} → var t ≡ Some n → NameRead (t ∷ us) n us
-var_name t n {us} e = let v = var_of {t = t} e in subst (λ p. ReadsName (t ∷ us) p n.name us) (sym (ap (λ n. n.place) v.is_at)) (expressions.var v.is_var)
+var_name t n {us} e =
+    let v = var_of {t = t} e in
+    subst (λ p. ReadsName (t ∷ us) p n.name us) (sym (ap (λ n. n.place) v.is_at)) (expressions.var v.is_var)
 
 bracket_name : (t : Token) (q : Place) {ts us : List Token} {name : Name} → mark 40 t ≡ Some q → ReadsName (t ∷ ts) t.place name us → ReadsName (t ∷ ts) q name us
 bracket_name t q {ts} {us} {name} e h = subst (λ p. ReadsName (t ∷ ts) p name us) (sym (mark_of {m = 40} {t = t} e).1) h
 
 want_back : (p : Place) (k : ℕ) (out : Out) (t : Token) (o : Option NameAt) (b : Option Place) {ts us : List Token} {ms : Out} → var t ≡ o → mark 40 t ≡ b → SideMeans (spot_if (name_spot o b) p k out) ts ms us → SigRest p k out spot.Want (t ∷ ts) ms us
 want_back p k out t (Some n) b d e (sig_rest (named_names h) f g) = sig_rest (want_names (var_name t n d) h) f g
-want_back p k out t None (Some q) d e (sig_rest (open_names i c h) f g) = sig_rest (want_names (bracket_name t q e (expressions.op (mark_of {m = 40} {t = t} e).0 i c)) h) f g
+want_back p k out t None (Some q) d e (sig_rest (open_names i c h) f g) =
+    sig_rest (want_names (bracket_name t q e (expressions.op (mark_of {m = 40} {t = t} e).0 i c)) h) f g
 want_back p k out t None None d e h = absurd h
 
 open_back : (p : Place) (k : ℕ) (out : Out) (q : Place) (t : Token) (o : Option NameAt) {ts us : List Token} {ms : Out} → op t ≡ o → SideMeans (spot_if (mapped (operator_spot q) o) p k out) ts ms us → SigRest p k out (spot.Open q) (t ∷ ts) ms us
@@ -90,7 +94,8 @@ open_back p k out q t (Some n) d (sig_rest (operator_names c h) f g) = sig_rest 
 open_back p k out q t None d h = absurd h
 
 close_back : (p : Place) (k : ℕ) (out : Out) (q : Place) (name : Name) (t : Token) (o : Option Place) {ts us : List Token} {ms : Out} → mark 41 t ≡ o → SideMeans (spot_if (mapped (close_spot q name) o) p k out) ts ms us → SigRest p k out (spot.Operator q name) (t ∷ ts) ms us
-close_back p k out q name t (Some r) d (sig_rest (named_names h) f g) = sig_rest (operator_names (mark_of {m = 41} {t = t} d).0 h) f g
+close_back p k out q name t (Some r) d (sig_rest (named_names h) f g) =
+    sig_rest (operator_names (mark_of {m = 41} {t = t} d).0 h) f g
 close_back p k out q name t None d h = absurd h
 
 later_first : (k : ℕ) (p : Place) (n : NameAt) → first_at (k + 1) p n ≡ p
@@ -105,7 +110,8 @@ next_name_nodes p k out n m ns q =
     ∙ ap (λ x. (out ++ named n) ++ (names ++ (qualified_of q ++ node.Sig x ∷ []))) (sym (later_first k p m)))
 
 comma_back : (p : Place) (k : ℕ) (out : Out) (n : NameAt) (t : Token) (o : Option Place) {ts us : List Token} {ms : Out} → mark 44 t ≡ o → SideMeans (comma_if o p k out n) ts ms us → SigRest p k out (spot.Named n) (t ∷ ts) ms us
-comma_back p k out n t (Some r) d (sig_rest {n = m} {ns} {q} (want_names h g) f i) = sig_as (next_name_nodes (first_at k p n) k out n m ns q) (sig_rest (named_names (a_thing (behind_mark (mark_of {m = 44} {t = t} d).0 h) g)) f i)
+comma_back p k out n t (Some r) d (sig_rest {n = m} {ns} {q} (want_names h g) f i) =
+    sig_as (next_name_nodes (first_at k p n) k out n m ns q) (sig_rest (named_names (a_thing (behind_mark (mark_of {m = 44} {t = t} d).0 h) g)) f i)
 comma_back p k out n t None d h = absurd h
 
 side_back : (d : Side) (t : Token) (ts us : List Token) (ms : Out) → SideMeans (side_moved d t) ts ms us → SideMeans d (t ∷ ts) ms us
@@ -139,7 +145,9 @@ sig_turns e d t {ts} {us} {ms} (sig_at p k out n i c j) =
 
 pub line_turns : (e : Option State) (d : Side) (t : Token) {x : ATurn} {ts us : List Token} {ms : Out} → LineTurn e d t x → All Means x.frames ts ms us → LineMeans e d (t ∷ ts) (x.nodes ++ ms) us
 line_turns e d t (line_sig i) = sig_turns e d t (sig_turn_of d t i)
-line_turns e d t {ts} {us} {ms} (line_still g i) = let P : ATurn → Type 0 = λ y. All Means y.frames ts ms us → LineMeans e d (t ∷ ts) (y.nodes ++ ms) us in subst P i (λ a. line_back e d t (one_line a))
+line_turns e d t {ts} {us} {ms} (line_still g i) =
+    let P : ATurn → Type 0 = λ y. All Means y.frames ts ms us → LineMeans e d (t ∷ ts) (y.nodes ++ ms) us in
+    subst P i (λ a. line_back e d t (one_line a))
 
 -- a line as a declaration
 
@@ -147,10 +155,12 @@ equation_decl : {ts us : List Token} {b : Bind} → EquationRead ts b us → Rea
 equation_decl (equation_read h) = grammar.equation h
 
 tops_equation : (n : ℕ) {ts us vs : List Token} {v ms : Out} → LeafMeans leaf.Equation ts v us → Thing (After ReadsDecls) (counted_from node.Program decl_nodes (n + 1)) us ms vs → Thing ReadsDecls (counted_from node.Program decl_nodes n) ts ((v ++ node.Equation ∷ []) ++ (ms ++ [])) vs
-tops_equation n (thing {a = b} h) (thing {a = ds} k) = thing_as (decl.Equation b ∷ ds) (decl_before (equation_decl h) k) (cons_next node.Program decl_nodes n (decl.Equation b) ds)
+tops_equation n (thing {a = b} h) (thing {a = ds} k) =
+    thing_as (decl.Equation b ∷ ds) (decl_before (equation_decl h) k) (cons_next node.Program decl_nodes n (decl.Equation b) ds)
 
 equation_run : {s : State} {ts us : List Token} {v : Out} → Some an_eq.start ≡ Some s → Runs an_eq s ts v us → LeafMeans leaf.Equation ts v us
-equation_run {ts} {us} {v} i h = leaf_means leaf.Equation ts us v ((leaf_known leaf.Equation).exact.sound (subst (λ s. Runs an_eq s ts v us) (sym (some_is i)) h))
+equation_run {ts} {us} {v} i h =
+    leaf_means leaf.Equation ts us v ((leaf_known leaf.Equation).exact.sound (subst (λ s. Runs an_eq s ts v us) (sym (some_is i)) h))
 
 name_place : {ts us : List Token} {p : Place} {name : Name} → ReadsName ts p name us → p ≡ first_place ts
 name_place (expressions.var e) = refl

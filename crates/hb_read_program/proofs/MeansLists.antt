@@ -71,7 +71,8 @@ with_more h (a_thing (behind_mark s g) k) = more_things h s (with_more g k)
 -- more things
 
 more_next : {A : Type 0} {Sep : Token → Type 0} {Reads : List Token → A → List Token → Type 0} (whole : ℕ → DeclNode) (f : A → Out) (n : ℕ) {t : Token} {ts us vs : List Token} {ms ls : Out} → Sep t → Thing Reads f ts ms us → Thing (Several (Behind Sep Reads)) (counted_from whole f (n + 1)) us ls vs → Thing (Several (Behind Sep Reads)) (counted_from whole f n) (t ∷ ts) (ms ++ (ls ++ [])) vs
-more_next whole f n s (thing {a = x} h) (thing {a = xs} k) = thing_as (x ∷ xs) (a_thing (behind_mark s h) k) (cons_next whole f n x xs)
+more_next whole f n s (thing {a = x} h) (thing {a = xs} k) =
+    thing_as (x ∷ xs) (a_thing (behind_mark s h) k) (cons_next whole f n x xs)
 
 pub var_token : {p : Place} {n : ℕ} {ts us : List Token} {ms : Out} → OneToken kind.Var put.Name p n ts ms us → Thing VarRead named ts ms us
 var_token (one_fits {t} e) = thing_as (name_at t (name_in t.kind)) (var_read (is_var t e)) refl
@@ -79,10 +80,14 @@ var_token (one_fits {t} e) = thing_as (name_at t (name_in t.kind)) (var_read (is
 more_head : (k : Things) → HeadLaw (symbol.More k) (mute (between k) (production.More k))
 more_head things.Names p n t ts us ms e (then a (then b nothing)) = more_next node.Names named n (is_mark 44 t e) a b
 more_head things.Infixes p n t ts us ms e (then a (then b nothing)) = more_next node.Names named n (is_mark 44 t e) a b
-more_head things.FieldNames p n t ts us ms e (then a (then b nothing)) = more_next node.Names named n (is_mark 44 t e) (var_token a) b
-more_head things.DataCons p n t ts us ms e (then a (then b nothing)) = more_next node.DataCons data_con_of n (is_word word.Bar t e) a b
-more_head things.BitCons p n t ts us ms e (then a (then b nothing)) = more_next node.BitCons bit_con_of n (is_word word.Bar t e) a b
-more_head things.StructParts p n t ts us ms e (then a (then b nothing)) = more_next node.StructParts struct_part_of n (is_word word.Bar t e) a b
+more_head things.FieldNames p n t ts us ms e (then a (then b nothing)) =
+    more_next node.Names named n (is_mark 44 t e) (var_token a) b
+more_head things.DataCons p n t ts us ms e (then a (then b nothing)) =
+    more_next node.DataCons data_con_of n (is_word word.Bar t e) a b
+more_head things.BitCons p n t ts us ms e (then a (then b nothing)) =
+    more_next node.BitCons bit_con_of n (is_word word.Bar t e) a b
+more_head things.StructParts p n t ts us ms e (then a (then b nothing)) =
+    more_next node.StructParts struct_part_of n (is_word word.Bar t e) a b
 more_head things.Depends p n t ts us ms e (then a (then b nothing)) = more_next node.Depends depend_of n (is_mark 44 t e) a b
 more_head things.Preds p n t ts us ms e (then a (then b nothing)) = more_next context_whole pred_of n (is_mark 44 t e) a b
 
@@ -97,7 +102,8 @@ more_nothing things.Depends p n ts = thing_as [] nothing_more (counted_none node
 more_nothing things.Preds p n ts = thing_as [] nothing_more (counted_none context_whole pred_of n)
 
 pub more_law : (k : Things) → SymbolLaw (symbol.More k)
-more_law k = record { by_head = and_also (more_head k) no_other; by_leaf = no_leaf_law; by_nothing = nothing_law (more_nothing k) }
+more_law k =
+    record { by_head = and_also (more_head k) no_other; by_leaf = no_leaf_law; by_nothing = nothing_law (more_nothing k) }
 
 -- names
 
@@ -105,7 +111,8 @@ name_var : HeadLaw symbol.Name (head kind.Var put.Name production.Nothing)
 name_var p n t ts us ms e nothing = thing_as (a_name t.place (name_in t.kind)) (expressions.var (is_var t e)) refl
 
 name_op : HeadLaw symbol.Name (mark_head 40 production.Bracketed)
-name_op p n t ts us ms e (then (one_fits {t = s} f) (then (one_fits {t = r} g) nothing)) = thing_as (a_name t.place (name_in s.kind)) (expressions.op (is_mark 40 t e) (is_op s f) (is_mark 41 r g)) refl
+name_op p n t ts us ms e (then (one_fits {t = s} f) (then (one_fits {t = r} g) nothing)) =
+    thing_as (a_name t.place (name_in s.kind)) (expressions.op (is_mark 40 t e) (is_op s f) (is_mark 41 r g)) refl
 
 pub name_law : SymbolLaw symbol.Name
 name_law = record { by_head = and_also name_var (and_also name_op no_other); by_leaf = no_leaf_law; by_nothing = never_law }
@@ -114,7 +121,8 @@ infix_op : HeadLaw symbol.Infix (head kind.Op put.Name production.Nothing)
 infix_op p n t ts us ms e nothing = thing_as (a_name t.place (name_in t.kind)) (expressions.op (is_op t e)) refl
 
 infix_quoted : HeadLaw symbol.Infix (mark_head 96 production.Quoted)
-infix_quoted p n t ts us ms e (then (one_fits {t = s} f) (then (one_fits {t = r} g) nothing)) = thing_as (a_name s.place (name_in s.kind)) (expressions.named (is_mark 96 t e) (is_var s f) (is_mark 96 r g)) refl
+infix_quoted p n t ts us ms e (then (one_fits {t = s} f) (then (one_fits {t = r} g) nothing)) =
+    thing_as (a_name s.place (name_in s.kind)) (expressions.named (is_mark 96 t e) (is_var s f) (is_mark 96 r g)) refl
 
 pub infix_law : SymbolLaw symbol.Infix
 infix_law = record { by_head = and_also infix_op (and_also infix_quoted no_other); by_leaf = no_leaf_law; by_nothing = never_law }
@@ -122,7 +130,8 @@ infix_law = record { by_head = and_also infix_op (and_also infix_quoted no_other
 -- varid* and varid+
 
 vars_next : HeadLaw symbol.Vars (head kind.Var put.Name production.Vars)
-vars_next p n t ts us ms e (then (thing {a = ns} h) nothing) = let v : NameAt = name_at t (name_in t.kind) in thing_as (v ∷ ns) (var_more (is_var t e) h) (cons_next node.Names named n v ns)
+vars_next p n t ts us ms e (then (thing {a = ns} h) nothing) =
+    let v : NameAt = name_at t (name_in t.kind) in thing_as (v ∷ ns) (var_more (is_var t e) h) (cons_next node.Names named n v ns)
 
 vars_nothing : (p : Place) (n : ℕ) (ts : List Token) → Means (waits symbol.Vars p n) ts (node.Names n ∷ []) ts
 vars_nothing p n ts = thing_as [] no_var (counted_none node.Names named n)
@@ -131,7 +140,9 @@ pub vars_law : SymbolLaw symbol.Vars
 vars_law = record { by_head = and_also vars_next no_other; by_leaf = no_leaf_law; by_nothing = nothing_law vars_nothing }
 
 vars_first : HeadLaw symbol.SomeVars (head kind.Var put.Name production.FirstVars)
-vars_first p n t ts us ms e (then (thing {a = ns} h) nothing) = let v : NameAt = name_at t (name_in t.kind) in thing_as (v ∷ ns) (some_vars (var_more (is_var t e) h)) (cons_first node.Names named v ns)
+vars_first p n t ts us ms e (then (thing {a = ns} h) nothing) =
+    let v : NameAt = name_at t (name_in t.kind) in
+    thing_as (v ∷ ns) (some_vars (var_more (is_var t e) h)) (cons_first node.Names named v ns)
 
 pub some_vars_law : SymbolLaw symbol.SomeVars
 some_vars_law = record { by_head = and_also vars_first no_other; by_leaf = no_leaf_law; by_nothing = never_law }
@@ -142,13 +153,15 @@ atypes_nothing : (p : Place) (n : ℕ) (ts : List Token) → Means (waits symbol
 atypes_nothing p n ts = thing_as [] no_atype (counted_none node.Types type_of n)
 
 atypes_next : BehindLeaf symbol.Atypes leaf.Atype (item symbol.Atypes count.Next ∷ [])
-atypes_next p n t ts us vs v ms (thing {a} h) (then (thing {a = xs} k) nothing) = thing_as (a ∷ xs) (atype_more h k) (cons_next node.Types type_of n a xs)
+atypes_next p n t ts us vs v ms (thing {a} h) (then (thing {a = xs} k) nothing) =
+    thing_as (a ∷ xs) (atype_more h k) (cons_next node.Types type_of n a xs)
 
 pub atypes_law : SymbolLaw symbol.Atypes
 atypes_law = record { by_head = no_other; by_leaf = leaf_law atypes_next; by_nothing = nothing_law atypes_nothing }
 
 atypes_first : BehindLeaf symbol.SomeAtypes leaf.Atype (item symbol.Atypes count.One ∷ [])
-atypes_first p n t ts us vs v ms (thing {a} h) (then (thing {a = xs} k) nothing) = thing_as (a ∷ xs) (some_types (atype_more h k)) (cons_first node.Types type_of a xs)
+atypes_first p n t ts us vs v ms (thing {a} h) (then (thing {a = xs} k) nothing) =
+    thing_as (a ∷ xs) (some_types (atype_more h k)) (cons_first node.Types type_of a xs)
 
 pub some_atypes_law : SymbolLaw symbol.SomeAtypes
 some_atypes_law = record { by_head = no_other; by_leaf = leaf_law atypes_first; by_nothing = never_law }
@@ -156,7 +169,8 @@ some_atypes_law = record { by_head = no_other; by_leaf = leaf_law atypes_first; 
 -- ["/" number] and ["aligned" number]
 
 size_number : HeadLaw symbol.Size (mute kind.Slash production.Number)
-size_number p n t ts us ms e (then (one_fits {t = s} f) nothing) = thing_as (Some (number_in s.kind)) (size (is_slash t e) (is_number s f)) refl
+size_number p n t ts us ms e (then (one_fits {t = s} f) nothing) =
+    thing_as (Some (number_in s.kind)) (size (is_slash t e) (is_number s f)) refl
 
 size_nothing : (p : Place) (n : ℕ) (ts : List Token) → Means (waits symbol.Size p n) ts (node.NoNumber ∷ []) ts
 size_nothing p n ts = thing_as None no_size refl
@@ -165,7 +179,8 @@ pub size_law : SymbolLaw symbol.Size
 size_law = record { by_head = and_also size_number no_other; by_leaf = no_leaf_law; by_nothing = nothing_law size_nothing }
 
 align_number : HeadLaw symbol.Align (word_head word.Aligned production.Number)
-align_number p n t ts us ms e (then (one_fits {t = s} f) nothing) = thing_as (Some (number_in s.kind)) (align (is_word word.Aligned t e) (is_number s f)) refl
+align_number p n t ts us ms e (then (one_fits {t = s} f) nothing) =
+    thing_as (Some (number_in s.kind)) (align (is_word word.Aligned t e) (is_number s f)) refl
 
 align_nothing : (p : Place) (n : ℕ) (ts : List Token) → Means (waits symbol.Align p n) ts (node.NoNumber ∷ []) ts
 align_nothing p n ts = thing_as None no_align refl

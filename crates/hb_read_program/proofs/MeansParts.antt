@@ -47,10 +47,12 @@ abbrev field_at : Token → List NameAt → TypeExpr → FieldDecl
 field_at t ns a = record { names = name_at t (name_in t.kind) ∷ ns; of = a }
 
 field_of : {t s : Token} {ts us vs : List Token} {ns : List NameAt} {a : TypeExpr} → fits kind.Var t ≡ true → Several (Behind IsComma VarRead) ts ns (s ∷ us) → fits (kind.Word word.DoubleColon) s ≡ true → ReadsType us a vs → ReadsFieldDecl (t ∷ ts) (field_at t ns a) vs
-field_of {t} {s} e h f k = grammar.field_decl (field_names_from (with_more (var_read (is_var t e)) h)) (is_word word.DoubleColon s f) k
+field_of {t} {s} e h f k =
+    grammar.field_decl (field_names_from (with_more (var_read (is_var t e)) h)) (is_word word.DoubleColon s f) k
 
 field_decl_head : HeadLaw symbol.FieldDecl (head kind.Var put.Name production.FieldDecl)
-field_decl_head p n t ts us ms e (then (thing {a = ns} h) (then (one_fits {t = s} f) (then (thing {a} k) (then closes nothing)))) = thing_as (field_at t ns a) (field_of e h f k) refl
+field_decl_head p n t ts us ms e (then (thing {a = ns} h) (then (one_fits {t = s} f) (then (thing {a} k) (then closes nothing)))) =
+    thing_as (field_at t ns a) (field_of e h f k) refl
 
 pub field_decl_law : SymbolLaw symbol.FieldDecl
 field_decl_law = record { by_head = and_also field_decl_head no_other; by_leaf = no_leaf_law; by_nothing = never_law }
@@ -75,28 +77,33 @@ tag_head : HeadLaw symbol.BitPart (head kind.Bits put.Tag production.Nothing)
 tag_head p n t ts us ms e nothing = thing_as (bit_part.Tag (width_in t.kind) (bits_in t.kind)) (grammar.tag (are_bits t e)) refl
 
 bit_fields_head : HeadLaw symbol.BitPart (head kind.Var put.Name production.BitFields)
-bit_fields_head p n t ts us ms e (then (thing {a = ns} h) (then (one_fits {t = s} f) (then (thing {a} k) (then closes (then closes nothing))))) = thing_as (bit_part.Fields (field_at t ns a)) (grammar.bit_fields (field_of e h f k)) (fields_then (field_at t ns a) node.BitFields)
+bit_fields_head p n t ts us ms e (then (thing {a = ns} h) (then (one_fits {t = s} f) (then (thing {a} k) (then closes (then closes nothing))))) =
+    thing_as (bit_part.Fields (field_at t ns a)) (grammar.bit_fields (field_of e h f k)) (fields_then (field_at t ns a) node.BitFields)
 
 pub bit_part_law : SymbolLaw symbol.BitPart
-bit_part_law = record { by_head = and_also tag_head (and_also bit_fields_head no_other); by_leaf = no_leaf_law; by_nothing = never_law }
+bit_part_law =
+    record { by_head = and_also tag_head (and_also bit_fields_head no_other); by_leaf = no_leaf_law; by_nothing = never_law }
 
 -- parts up to `]`
 
 first_bits : {n : ℕ} {t : Token} {ts us vs : List Token} {ms : Out} (b : BitPart) (bs : List BitPart) → ReadsBitPart ts b us → Several (Behind IsBar ReadsBitPart) us bs (t ∷ vs) → IsCloseSquare t → bit_part_of b ++ (counted_from node.BitCon bit_part_of 1 bs ++ []) ≡ ms → BitRest n ts ms vs
-first_bits {n} {ts} {vs} b bs h k c e = subst (λ ms. BitRest n ts ms vs) (cons_first node.BitCon bit_part_of b bs ∙ e) (some_bits (bit_parts_from (with_more h k)) c)
+first_bits {n} {ts} {vs} b bs h k c e =
+    subst (λ ms. BitRest n ts ms vs) (cons_first node.BitCon bit_part_of b bs ∙ e) (some_bits (bit_parts_from (with_more h k)) c)
 
 bits_close : HeadLaw symbol.BitParts (close_head 93 form.BitCon)
 bits_close p n t ts us ms e nothing = no_bits (is_mark 93 t e)
 
 bits_tag : HeadLaw symbol.BitParts (head kind.Bits put.Tag production.FirstBitPart)
-bits_tag p n t ts us ms e (then (more_bits {ps} k c) nothing) = first_bits (bit_part.Tag (width_in t.kind) (bits_in t.kind)) ps (grammar.tag (are_bits t e)) k c refl
+bits_tag p n t ts us ms e (then (more_bits {ps} k c) nothing) =
+    first_bits (bit_part.Tag (width_in t.kind) (bits_in t.kind)) ps (grammar.tag (are_bits t e)) k c refl
 
 bits_fields : HeadLaw symbol.BitParts (head kind.Var put.Name production.FirstBitFields)
 bits_fields p n t ts us ms e (then (thing {a = ns} h) (then (one_fits {t = s} f) (then (thing {a} k) (then closes (then closes (then (more_bits {ps} m c) nothing)))))) =
     first_bits (bit_part.Fields (field_at t ns a)) ps (grammar.bit_fields (field_of e h f k)) m c (fields_before (field_at t ns a) node.BitFields (counted_from node.BitCon bit_part_of 1 ps ++ []))
 
 pub bit_parts_law : SymbolLaw symbol.BitParts
-bit_parts_law = record { by_head = and_also bits_close (and_also bits_tag (and_also bits_fields no_other)); by_leaf = no_leaf_law; by_nothing = never_law }
+bit_parts_law =
+    record { by_head = and_also bits_close (and_also bits_tag (and_also bits_fields no_other)); by_leaf = no_leaf_law; by_nothing = never_law }
 
 more_as : {n : ℕ} {t : Token} {ts us : List Token} {ms : Out} (ps : List BitPart) → Several (Behind IsBar ReadsBitPart) ts ps (t ∷ us) → IsCloseSquare t → counted_from node.BitCon bit_part_of n ps ≡ ms → MoreBits n ts ms us
 more_as {n} {ts} {us} ps h c e = subst (λ ms. MoreBits n ts ms us) e (more_bits h c)
@@ -105,13 +112,16 @@ more_close : HeadLaw symbol.MoreBitParts (close_head 93 form.BitCon)
 more_close p n t ts us ms e nothing = more_as [] nothing_more (is_mark 93 t e) (counted_none node.BitCon bit_part_of n)
 
 more_bar : HeadLaw symbol.MoreBitParts (word_head word.Bar production.MoreBitParts)
-more_bar p n t ts us ms e (then (thing {a = b} h) (then (more_bits {ps} k c) nothing)) = more_as (b ∷ ps) (a_thing (behind_mark (is_word word.Bar t e) h) k) c (cons_next node.BitCon bit_part_of n b ps)
+more_bar p n t ts us ms e (then (thing {a = b} h) (then (more_bits {ps} k c) nothing)) =
+    more_as (b ∷ ps) (a_thing (behind_mark (is_word word.Bar t e) h) k) c (cons_next node.BitCon bit_part_of n b ps)
 
 pub more_bit_parts_law : SymbolLaw symbol.MoreBitParts
-more_bit_parts_law = record { by_head = and_also more_close (and_also more_bar no_other); by_leaf = no_leaf_law; by_nothing = never_law }
+more_bit_parts_law =
+    record { by_head = and_also more_close (and_also more_bar no_other); by_leaf = no_leaf_law; by_nothing = never_law }
 
 bit_con_head : HeadLaw symbol.BitCon (head kind.Con put.Name production.BitCon)
-bit_con_head p n t ts us ms e (then (one_fits {t = s} f) (then (no_bits c) nothing)) = thing_as (record { name = name_at t (name_in t.kind); parts = [] }) (grammar.no_bit_parts (is_con t e) (is_mark 91 s f) c) refl
+bit_con_head p n t ts us ms e (then (one_fits {t = s} f) (then (no_bits c) nothing)) =
+    thing_as (record { name = name_at t (name_in t.kind); parts = [] }) (grammar.no_bit_parts (is_con t e) (is_mark 91 s f) c) refl
 bit_con_head p n t ts us ms e (then (one_fits {t = s} f) (then (some_bits {ps} h c) nothing)) =
     let name : NameAt = name_at t (name_in t.kind) in
     thing_as (record { name = name; parts = ps }) (grammar.bit_parts (is_con t e) (is_mark 91 s f) h c) (ap (λ m. named name ++ m) (sym (append_none (closed node.BitCon (counted bit_part_of ps)))))
@@ -122,13 +132,16 @@ bit_con_law = record { by_head = and_also bit_con_head no_other; by_leaf = no_le
 -- sep(varid, ",") "::" type | "Pad" number
 
 gap_head : HeadLaw symbol.StructPart (mute kind.Pad production.Padding)
-gap_head p n t ts us ms e (then (one_fits {t = s} f) nothing) = thing_as (struct_part.Pad (number_in s.kind)) (grammar.gap (is_pad t e) (is_number s f)) refl
+gap_head p n t ts us ms e (then (one_fits {t = s} f) nothing) =
+    thing_as (struct_part.Pad (number_in s.kind)) (grammar.gap (is_pad t e) (is_number s f)) refl
 
 struct_fields_head : HeadLaw symbol.StructPart (head kind.Var put.Name production.StructFields)
-struct_fields_head p n t ts us ms e (then (thing {a = ns} h) (then (one_fits {t = s} f) (then (thing {a} k) (then closes (then closes nothing))))) = thing_as (struct_part.Fields (field_at t ns a)) (grammar.struct_fields (field_of e h f k)) (fields_then (field_at t ns a) node.StructFields)
+struct_fields_head p n t ts us ms e (then (thing {a = ns} h) (then (one_fits {t = s} f) (then (thing {a} k) (then closes (then closes nothing))))) =
+    thing_as (struct_part.Fields (field_at t ns a)) (grammar.struct_fields (field_of e h f k)) (fields_then (field_at t ns a) node.StructFields)
 
 pub struct_part_law : SymbolLaw symbol.StructPart
-struct_part_law = record { by_head = and_also gap_head (and_also struct_fields_head no_other); by_leaf = no_leaf_law; by_nothing = never_law }
+struct_part_law =
+    record { by_head = and_also gap_head (and_also struct_fields_head no_other); by_leaf = no_leaf_law; by_nothing = never_law }
 
 -- the digit of a fixity
 
@@ -150,10 +163,12 @@ digit_law fix = record { by_head = and_also (digit_head fix) no_other; by_leaf =
 -- a port behind `::`
 
 direction_head : (dir : Dir) → HeadLaw symbol.Direction (mute (kind.Toward dir) (production.Address dir))
-direction_head dir p n t ts us ms e (then (thing h) (then (one_fits {t = s} f) (then (one_fits {t = r} g) nothing))) = port_rest dir (is_dir dir t e) h (is_word word.At s f) (are_bits r g)
+direction_head dir p n t ts us ms e (then (thing h) (then (one_fits {t = s} f) (then (one_fits {t = r} g) nothing))) =
+    port_rest dir (is_dir dir t e) h (is_word word.At s f) (are_bits r g)
 
 pub direction_law : SymbolLaw symbol.Direction
-direction_law = record { by_head = and_also (direction_head In) (and_also (direction_head Outwards) no_other); by_leaf = no_leaf_law; by_nothing = never_law }
+direction_law =
+    record { by_head = and_also (direction_head In) (and_also (direction_head Outwards) no_other); by_leaf = no_leaf_law; by_nothing = never_law }
 
 -- things that may be left out
 
@@ -174,7 +189,8 @@ pub depend_law : SymbolLaw symbol.Depend
 depend_law = record { by_head = and_also depend_head no_other; by_leaf = no_leaf_law; by_nothing = never_law }
 
 depends_head : HeadLaw symbol.Depends (word_head word.Bar production.Depends)
-depends_head p n t ts us ms e (then (thing {a = d} h) (then (thing {a = ds} k) nothing)) = optional_as (d ∷ ds) (grammar.depends (is_word word.Bar t e) (depend_list_from (with_more h k))) (cons_first node.Depends depend_of d ds)
+depends_head p n t ts us ms e (then (thing {a = d} h) (then (thing {a = ds} k) nothing)) =
+    optional_as (d ∷ ds) (grammar.depends (is_word word.Bar t e) (depend_list_from (with_more h k))) (cons_first node.Depends depend_of d ds)
 
 depends_nothing : (p : Place) (n : ℕ) (ts : List Token) → Means (waits symbol.Depends p n) ts (node.Depends n ∷ []) ts
 depends_nothing p n ts = left_out
@@ -185,10 +201,12 @@ depends_law = record { by_head = and_also depends_head no_other; by_leaf = no_le
 -- conditions
 
 conditions_head : HeadLaw symbol.Conditions (word_head word.If production.Conditions)
-conditions_head p n t ts us ms e (then (thing {a} h) (then (thing {a = xs} k) nothing)) = optional_as (a ∷ xs) (grammar.conditions (is_word word.If t e) (preds_from (with_more h k))) (cons_first context_whole pred_of a xs)
+conditions_head p n t ts us ms e (then (thing {a} h) (then (thing {a = xs} k) nothing)) =
+    optional_as (a ∷ xs) (grammar.conditions (is_word word.If t e) (preds_from (with_more h k))) (cons_first context_whole pred_of a xs)
 
 conditions_nothing : (p : Place) (n : ℕ) (ts : List Token) → Means (waits symbol.Conditions p n) ts (context_whole n ∷ []) ts
 conditions_nothing p n ts = left_out
 
 pub conditions_law : SymbolLaw symbol.Conditions
-conditions_law = record { by_head = and_also conditions_head no_other; by_leaf = no_leaf_law; by_nothing = nothing_law conditions_nothing }
+conditions_law =
+    record { by_head = and_also conditions_head no_other; by_leaf = no_leaf_law; by_nothing = nothing_law conditions_nothing }

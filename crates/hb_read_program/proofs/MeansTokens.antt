@@ -68,7 +68,8 @@ is_digit t e = by_number (some_place (digit t) e)
     by_number (k, d) = digit_named t (digit_of t d).0 (digit_of t d).1
 
 bits_named : {width k : ℕ} (t : Token) → IsBits width k t → IsBits (width_in t.kind) (bits_in t.kind) t
-bits_named {width} {k} t e = subst (λ w. IsBits w (bits_in t.kind) t) (sym (ap width_in e)) (subst (λ k. IsBits width k t) (sym (ap bits_in e)) e)
+bits_named {width} {k} t e =
+    subst (λ w. IsBits w (bits_in t.kind) t) (sym (ap width_in e)) (subst (λ k. IsBits width k t) (sym (ap bits_in e)) e)
 
 pub are_bits : (t : Token) → fits kind.Bits t ≡ true → IsBits (width_in t.kind) (bits_in t.kind) t
 are_bits t e = by_bits (some_place (bits t) e)
