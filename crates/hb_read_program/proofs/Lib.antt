@@ -21,3 +21,14 @@ pub mod ReadingSigs
 pub mod ReadingClasses
 pub mod ReadingInstances
 pub mod ReadingPrograms
+pub mod Means
+pub mod MeansLaws
+pub mod MeansTokens
+pub mod MeansLists
+pub mod MeansInits
+pub mod MeansParts
+pub mod MeansBlocks
+pub mod MeansLines
+pub mod MeansClass
+pub mod MeansDecls
+pub mod MeansClosed
