@@ -32,3 +32,5 @@ pub mod MeansLines
 pub mod MeansClass
 pub mod MeansDecls
 pub mod MeansClosed
+pub mod Ending
+pub mod Exactness

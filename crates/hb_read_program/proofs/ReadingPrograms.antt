@@ -5,7 +5,8 @@ use Rattle.hb_tree.specs.declared.declaration.Decl.{Decl}
 use Rattle.hb_tree.specs.declared.declaration.Program.{Program}
 use Rattle.hb_grammar.specs.Tokens.{IsEnd}
 use Rattle.hb_grammar.specs.Declarations as grammar
-use Rattle.hb_grammar.specs.Declarations.{ReadsDecl, Derives}
+use Rattle.hb_grammar.specs.Declarations.{ReadsDecl}
+use Rattle.hb_read_declarations.specs.Exactly.{ProgramRead, program_read}
 use Rattle.hb_engine.proofs.EngineLaw.{append_none, rows}
 use Rattle.hb_read_declarations.specs.declared.node.DeclNode.TheVariants as node
 use Rattle.hb_read_declarations.specs.Nodes.{counted, decl_nodes, program_nodes}
@@ -45,8 +46,8 @@ decl_puts (grammar.instance_decl d e h g k) = instance_puts d e h g k
 end_fits : (t : Token) → IsEnd t → fits kind.End t ≡ true
 end_fits t e = ap (λ k. is_some (kind_end t.place k)) e
 
--- whatever the grammar derives, the table reads
-pub grammar_rows : {ts : List Token} {p : Program} → Derives ts p → Rows (program_start ∷ []) ts (program_nodes p) []
-grammar_rows (grammar.program {t} {s} {ds} d h e) =
+-- whatever the grammar reads as a program, the table reads
+pub program_rows : {ts us : List Token} {p : Program} → ProgramRead ts p us → Rows (program_start ∷ []) ts (program_nodes p) us
+program_rows (program_read {t} {s} {ds} d h e) =
     rows_as (append_none ((counted decl_nodes ds).nodes ++ node.Program (0 + (counted decl_nodes ds).count) ∷ []) ∙ ap (λ k. (counted decl_nodes ds).nodes ++ node.Program k ∷ []) (none_plus (counted decl_nodes ds).count))
     (by_head symbol.Program (record { line = 0; col = 0 }) 0 (found_at (heads symbol.Program) t d) (rows (decls_read (λ ts us d h. decl_puts h) t.place 0 h) (a_token kind.End put.Nothing t.place 0 (end_fits s e))))

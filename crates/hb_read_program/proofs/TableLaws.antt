@@ -84,7 +84,7 @@ same_code c x xs e d = ap (λ c. member c (x ∷ xs)) e ∙ or_left (x == x) (me
 
 -- heads
 
-cond_cases : {A P : Type 0} (b : Bool) (x y : A) {z : A} → cond b x y ≡ z → (b ≡ true → x ≡ z → P) → (b ≡ false → y ≡ z → P) → P
+pub cond_cases : {A P : Type 0} (b : Bool) (x y : A) {z : A} → cond b x y ≡ z → (b ≡ true → x ≡ z → P) → (b ≡ false → y ≡ z → P) → P
 cond_cases true x y e f g = f refl e
 cond_cases false x y e f g = g refl e
 

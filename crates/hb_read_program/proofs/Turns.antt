@@ -26,11 +26,11 @@ use Rattle.hb_read_program.proofs.Fits.{an_eq, context_fine, Side_live, gone_sid
 
 -- which tokens a symbol may begin with
 
-begun_some : (l : Leaf) (o : Option (LeafState l)) (fs : List Frame) {n : ATurn} {P : Type 0} → begun l o fs ≡ Some n → ((s : LeafState l) → o ≡ Some s → turn_to (reads l s ∷ fs) [] ≡ n → P) → P
+pub begun_some : (l : Leaf) (o : Option (LeafState l)) (fs : List Frame) {n : ATurn} {P : Type 0} → begun l o fs ≡ Some n → ((s : LeafState l) → o ≡ Some s → turn_to (reads l s ∷ fs) [] ≡ n → P) → P
 begun_some l None fs e f = cc
 begun_some l (Some s) fs e f = f s refl (some_is e)
 
-line_some : (o : Option ATurn) (fs : List Frame) {n : ATurn} {P : Type 0} → begun_line o fs ≡ Some n → ((m : ATurn) → o ≡ Some m → turn_to (m.frames ++ fs) m.nodes ≡ n → P) → P
+pub line_some : (o : Option ATurn) (fs : List Frame) {n : ATurn} {P : Type 0} → begun_line o fs ≡ Some n → ((m : ATurn) → o ≡ Some m → turn_to (m.frames ++ fs) m.nodes ≡ n → P) → P
 line_some None fs e f = cc
 line_some (Some m) fs e f = f m refl (some_is e)
 
@@ -57,7 +57,7 @@ leaf_begins (begins l is) p n t e = begun_some l ((leaf_reader l).move (leaf_rea
 leaf_begins (begins_line is) p n t e = line_some (line_turn (Some an_eq.start) side_start t) (frames_of is t.place n t) e (λ m d i. line_first t m (line_of (Some an_eq.start) side_start t d))
 leaf_begins begins_class p n t {x} e = class_first t x (class_of (Some a_context.start) heading.Before t e)
 
-symbol_begins : (s : Symbol) (p : Place) (n : ℕ) (t : Token) (o : Option Head) {x : ATurn} → found (heads s) t ≡ o → head_turn o s p n t ≡ Some x → member (code t) (first s) ≡ true
+pub symbol_begins : (s : Symbol) (p : Place) (n : ℕ) (t : Token) (o : Option Head) {x : ATurn} → found (heads s) t ≡ o → head_turn o s p n t ≡ Some x → member (code t) (first s) ≡ true
 symbol_begins s p n t (Some h) d e = member_left (code t) (head_codes (heads s)) (begin_codes (begins_with s)) (found_code (heads s) t d)
 symbol_begins s p n t None d e = member_right (code t) (head_codes (heads s)) (begin_codes (begins_with s)) (leaf_begins (begins_with s) p n t e)
 
