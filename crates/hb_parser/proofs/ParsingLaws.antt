@@ -14,10 +14,9 @@ use Rattle.hb_tree.specs.declared.declaration.Program.{Program}
 use Rattle.hb_tree.specs.Things.{program_things}
 use Rattle.hb_grammar.specs.Declarations.{Derives}
 use Rattle.hb_grammar_laws.proofs.DeclarationsFew.{program_few}
-use Rattle.hb_read_patterns.specs.Moves.{pat_start}
 use Rattle.hb_read_declarations.specs.declared.node.DeclNode.{DeclNode}
 use Rattle.hb_read_declarations.specs.Nodes.{program_nodes}
-use Rattle.hb_read_declarations.proofs.Exactness.{programs_are_exact}
+use Rattle.hb_read_program.proofs.Exactness.{program_exact}
 use Rattle.hb_depth.specs.Depth.{too_deep, IsNotAfter, IsFirst}
 use Rattle.hb_depth.specs.Written.{IsWrittenProgram}
 use Rattle.hb_depth.proofs.Derived.{program_written}
@@ -35,7 +34,7 @@ deep_at place = record { code = E29; place = place; detail = codes "depth" }
 
 -- a list of tokens is one program at most
 pub program_alone : {ts : List Token} {p q : Program} → Derives ts p → Derives ts q → p ≡ q
-program_alone {p} {q} d e = programs_alike p q (derived_parsed d) (derived_parsed e) (nodes_alone (programs_are_exact pat_start) d e)
+program_alone {p} {q} d e = programs_alike p q (derived_parsed d) (derived_parsed e) (nodes_alone program_exact d e)
 
 -- the first of some places is one
 

@@ -11,7 +11,7 @@ use hb_base::{Code, Fault, List, Memory, Place, refused};
 use hb_build_program::build_program;
 use hb_depth::first_too_deep;
 use hb_read_declarations::DeclNode;
-use hb_read_programs::ProgramReader;
+use hb_read_program::ProgramReader;
 use hb_tokens::{Token, Tokens};
 use hb_tree::Program;
 use std::alloc::Global;
