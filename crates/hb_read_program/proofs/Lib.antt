@@ -12,3 +12,4 @@ pub mod ReadingFixity
 pub mod ReadingInits
 pub mod ReadingArea
 pub mod ReadingLines
+pub mod Running
