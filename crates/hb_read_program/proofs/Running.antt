@@ -8,7 +8,9 @@ use Rattle.hb_read_declarations.specs.declared.node.DeclNode.{DeclNode}
 use Rattle.hb_read_declarations.specs.Readers.{Out}
 use Rattle.hb_read_program.specs.Rules.{Leaf, Item}
 use Rattle.hb_read_program.specs.Frames.{Frame, waits, reads, ATurn, turn_to, LeafState, leaf_reader, begun, begun_line, count_of, frames_of, frame_turn, frame_nothing, rules}
-use Rattle.hb_read_program.specs.Running.{LeafReader, Kept, kept, step, seen_leaf, seen_frame, seen, Turned, turned_to, Stepped, Ended, LeafTook, LeafBegan}
+use Rattle.hb_read_program.specs.declared.frame.Frame.TheVariants as kept
+use Rattle.hb_read_program.specs.declared.run.Step.TheVariants as step
+use Rattle.hb_read_program.specs.Running.{LeafReader, Kept, seen_leaf, seen_frame, seen, Turned, turned_to, Stepped, Ended, LeafTook, LeafBegan}
 
 -- the last of some symbols goes on the stack first
 
@@ -70,9 +72,17 @@ when_not_ended f all fs out new e h = rw e (not_ended_at (frame_nothing (seen_fr
 
 -- a reader of its own that takes a token
 
+abbrev first_or : Frame → List Frame → Frame
+first_or x [] = x
+first_or x (f ∷ fs) = f
+
+abbrev first_in : Frame → Option ATurn → Frame
+first_in x None = x
+first_in x (Some n) = first_or x n.frames
+
 began : (l : Leaf) (m : Option (LeafState l)) (x : Frame) (fs : List Frame) → begun l m [] ≡ Some (turn_to (x ∷ []) []) → begun l m fs ≡ Some (turn_to (x ∷ fs) [])
 began l None x fs e = cc
-began l (Some s) x fs e = let h : reads l s ≡ x = cc in rw h refl
+began l (Some s) x fs e = let h : reads l s ≡ x = ap (first_in x) e in rw h refl
 
 not_begun : (l : Leaf) (m : Option (LeafState l)) (fs : List Frame) → begun l m [] ≡ None → begun l m fs ≡ None
 not_begun l None fs e = refl

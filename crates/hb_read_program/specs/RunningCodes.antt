@@ -1,5 +1,5 @@
 -- How the logic stores a thread of the reader of programs: by the frames that are kept for it.
-use Rattle.std.specs.Prelude.{◌≡◌, refl, ap, ◌∙◌, List, [], ◌∷◌}
+use Rattle.std.proofs.Common.{◌≡◌, refl, ap, ◌∙◌, List, [], ◌∷◌}
 use Rattle.std.specs.Coded.{Coded, code_by, coded×, coded_list}
 use Rattle.hb_engine.specs.Tables.{Thread, thread}
 use Rattle.hb_read_declarations.specs.declared.node.DeclNode.{DeclNode}
@@ -8,7 +8,9 @@ use Rattle.hb_read_program.specs.contracts.frame.Frame as kept_type
 use Rattle.hb_read_program.specs.declared.symbol.Leaf.TheVariants as leaf
 use Rattle.hb_read_program.specs.Rules.{Leaf}
 use Rattle.hb_read_program.specs.Frames.{Frame, LeafState, waits, reads, reads_line, reads_class}
-use Rattle.hb_read_program.specs.Running.{LeafReader, Kept, leaf_kept, kept, seen_leaf, seen_frame, seen}
+use Rattle.hb_read_program.specs.declared.frame.LeafReader.TheVariants as leaf_kept
+use Rattle.hb_read_program.specs.declared.frame.Frame.TheVariants as kept
+use Rattle.hb_read_program.specs.Running.{LeafReader, Kept, seen_leaf, seen_frame, seen}
 
 abbrev pub kept_leaf : (l : Leaf) → LeafState l → LeafReader
 kept_leaf leaf.Type s = leaf_kept.Type s

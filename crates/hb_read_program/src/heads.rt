@@ -2,7 +2,9 @@ ghost use Rattle.std.specs.Prelude.{◌≡◌, [], ◌∷◌};
 ghost use Rattle.hb_read_program.specs.Rules.{between, fits, found, heads};
 
 use crate::symbol::{Form, Head, Kind, Production, Put, Symbol, Things};
-use crate::worths::{bits, con, digit, end_of, mark, number, op, this_con, this_op, this_word, var};
+use crate::worths::{
+    bits, con, digit, end_of, mark, number, op, this_con, this_op, this_word, var,
+};
 use hb_base::Dir;
 use hb_base::fixed::{IN, OUT, PAD, SLASH};
 use hb_tokens::{Token, Word};
@@ -33,37 +35,54 @@ const TOPS: &[Head] = heads![
     Word(Word::Class) => Nothing, Class;
     Word(Word::Instance) => Nothing, Instance;
 ];
-const AFTER_TOP: &[Head] = heads![Mark(b'}') => Close(Form::Program), Nothing; Mark(b';') => Nothing, Tops;];
+
+const AFTER_TOP: &[Head] =
+    heads![Mark(b'}') => Close(Form::Program), Nothing; Mark(b';') => Nothing, Tops;];
+
 const INFIX: &[Head] = heads![Op => Name, Nothing; Mark(b'`') => Nothing, Quoted;];
+
 const NAME: &[Head] = heads![Var => Name, Nothing; Mark(b'(') => Nothing, Bracketed;];
+
 const BIT_PART: &[Head] = heads![Bits => Tag, Nothing; Var => Name, BitFields;];
+
 const BIT_PARTS: &[Head] = heads![
     Mark(b']') => Close(Form::BitCon), Nothing;
     Bits => Tag, FirstBitPart;
     Var => Name, FirstBitFields;
 ];
+
 const MORE_BIT_PARTS: &[Head] = heads![
     Mark(b']') => Close(Form::BitCon), Nothing;
     Word(Word::Bar) => Nothing, MoreBitParts;
 ];
+
 const STRUCT_PART: &[Head] = heads![Pad => Nothing, Padding; Var => Name, StructFields;];
-const INIT: &[Head] = heads![Word(Word::Each) => Nothing, Each; Word(Word::Fields) => Nothing, Fields;];
+
+const INIT: &[Head] =
+    heads![Word(Word::Each) => Nothing, Each; Word(Word::Fields) => Nothing, Fields;];
+
 const MORE_INITS: &[Head] = heads![
     Mark(b']') => Close(Form::InitFields), Nothing;
     Word(Word::Bar) => Nothing, MoreInits;
 ];
+
 const DIRECTION: &[Head] = heads![
     Toward(Dir::In) => Nothing, Address(Dir::In);
     Toward(Dir::Out) => Nothing, Address(Dir::Out);
 ];
+
 const SIGS: &[Head] = heads![
     Mark(b'}') => Close(Form::Sigs), Nothing;
     Mark(b';') => Nothing, Sigs;
     Var => Name, SigNames;
     Mark(b'(') => Nothing, SigBracketed;
 ];
-const AFTER_SIG: &[Head] = heads![Mark(b'}') => Close(Form::Sigs), Nothing; Mark(b';') => Nothing, Sigs;];
-const ROWS: &[Head] = heads![Mark(b'}') => Close(Form::Equations), Nothing; Mark(b';') => Nothing, Rows;];
+
+const AFTER_SIG: &[Head] =
+    heads![Mark(b'}') => Close(Form::Sigs), Nothing; Mark(b';') => Nothing, Sigs;];
+
+const ROWS: &[Head] =
+    heads![Mark(b'}') => Close(Form::Equations), Nothing; Mark(b';') => Nothing, Rows;];
 
 /// The token is of this kind.
 fn fits(kind: Kind, token: &Token) -> bool
@@ -125,7 +144,12 @@ pub fn found(symbol: Symbol, token: &Token) -> Option<Head>
 {
     match symbol {
         Symbol::One(kind, put) => only(kind, put, Production::Nothing, token),
-        Symbol::More(things) => only(between(things), Put::Nothing, Production::More(things), token),
+        Symbol::More(things) => only(
+            between(things),
+            Put::Nothing,
+            Production::More(things),
+            token,
+        ),
         Symbol::Digit(fix) => only(Kind::Digit, Put::Nothing, Production::Fixed(fix), token),
         Symbol::Program => first(heads![Mark(b'{') => Nothing, Program;], token),
         Symbol::Tops => first(TOPS, token),
@@ -156,6 +180,10 @@ pub fn found(symbol: Symbol, token: &Token) -> Option<Head>
         Symbol::Conditions => first(heads![Word(Word::If) => Nothing, Conditions;], token),
         Symbol::Body => first(heads![Word(Word::Where) => Nothing, Body;], token),
         Symbol::Rows | Symbol::AfterRow => first(ROWS, token),
-        Symbol::Read(_) | Symbol::Close(_) | Symbol::Atypes | Symbol::SomeAtypes | Symbol::ClassHead => None,
+        Symbol::Read(_)
+        | Symbol::Close(_)
+        | Symbol::Atypes
+        | Symbol::SomeAtypes
+        | Symbol::ClassHead => None,
     }
 }

@@ -44,10 +44,7 @@ pub fn put_values(nodes: &mut List<DeclNode>, values: &[ExprNode]) -> Result<(),
 }
 
 /// Puts out the nodes of types, if they are whole, and answers whether they are.
-pub fn end_types(
-    nodes: &mut List<DeclNode>,
-    whole: Option<List<TypeNode>>,
-) -> Result<bool, Memory>
+pub fn end_types(nodes: &mut List<DeclNode>, whole: Option<List<TypeNode>>) -> Result<bool, Memory>
     ensures { IfOk result (λ ended. Ended ended (mapped typed whole) nodes.old nodes.new) }
 {
     match whole {
@@ -60,10 +57,7 @@ pub fn end_types(
 }
 
 /// Puts out the nodes of an expression, if it is whole, and answers whether it is.
-pub fn end_values(
-    nodes: &mut List<DeclNode>,
-    whole: Option<List<ExprNode>>,
-) -> Result<bool, Memory>
+pub fn end_values(nodes: &mut List<DeclNode>, whole: Option<List<ExprNode>>) -> Result<bool, Memory>
     ensures { IfOk result (λ ended. Ended ended (mapped valued whole) nodes.old nodes.new) }
 {
     match whole {

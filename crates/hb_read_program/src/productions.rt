@@ -54,48 +54,134 @@ macro_rules! more {
 }
 
 const VAR: Item = plain!(One(Kind::Var, Put::Name));
+
 const CON: Item = plain!(One(Kind::Con, Put::Name));
+
 const NUMBER: Item = plain!(One(Kind::Number, Put::Number));
+
 const OPERATOR: Item = plain!(One(Kind::Op, Put::NameBefore));
+
 const NEXT_TOP: Item = counted!(AfterTop, Next);
+
 const NEXT_SIG: Item = counted!(AfterSig, Next);
 
 /// Behind a declaration's first word.
 const DATA: &[Item] = &[
-    CON, plain!(Vars), word!(Equals), plain!(DataCon), more!(DataCons), closing!(Data), NEXT_TOP,
+    CON,
+    plain!(Vars),
+    word!(Equals),
+    plain!(DataCon),
+    more!(DataCons),
+    closing!(Data),
+    NEXT_TOP,
 ];
+
 const BITDATA: &[Item] = &[
-    CON, plain!(Size), word!(Equals), plain!(BitCon), more!(BitCons), closing!(Bitdata), NEXT_TOP,
+    CON,
+    plain!(Size),
+    word!(Equals),
+    plain!(BitCon),
+    more!(BitCons),
+    closing!(Bitdata),
+    NEXT_TOP,
 ];
+
 const STRUCT: &[Item] = &[
-    CON, plain!(Size), mark!(b'['), plain!(StructPart), more!(StructParts), mark!(b']'), closing!(Struct), NEXT_TOP,
+    CON,
+    plain!(Size),
+    mark!(b'['),
+    plain!(StructPart),
+    more!(StructParts),
+    mark!(b']'),
+    closing!(Struct),
+    NEXT_TOP,
 ];
+
 const AREA: &[Item] = &[
-    VAR, plain!(Start), word!(DoubleColon), leaf!(Type), plain!(Align), closing!(Area), NEXT_TOP,
+    VAR,
+    plain!(Start),
+    word!(DoubleColon),
+    leaf!(Type),
+    plain!(Align),
+    closing!(Area),
+    NEXT_TOP,
 ];
+
 const PORT: &[Item] = &[VAR, word!(DoubleColon), plain!(Direction), NEXT_TOP];
-const CLASS: &[Item] = &[plain!(ClassHead), plain!(Depends), plain!(Methods), closing!(Class), NEXT_TOP];
+
+const CLASS: &[Item] = &[
+    plain!(ClassHead),
+    plain!(Depends),
+    plain!(Methods),
+    closing!(Class),
+    NEXT_TOP,
+];
+
 const INSTANCE: &[Item] = &[
-    CON, plain!(SomeAtypes), plain!(Conditions), plain!(Body), closing!(Instance), NEXT_TOP,
+    CON,
+    plain!(SomeAtypes),
+    plain!(Conditions),
+    plain!(Body),
+    closing!(Instance),
+    NEXT_TOP,
 ];
 
 /// Behind the first name of fields.
-const FIELD_DECL: &[Item] = &[more!(FieldNames), word!(DoubleColon), leaf!(Type), closing!(Fields)];
-const BIT_FIELDS: &[Item] = &[
-    more!(FieldNames), word!(DoubleColon), leaf!(Type), closing!(Fields), closing!(BitFields),
-];
-const FIRST_BIT_FIELDS: &[Item] = &[
-    more!(FieldNames), word!(DoubleColon), leaf!(Type), closing!(Fields), closing!(BitFields),
-    counted!(MoreBitParts, One),
-];
-const STRUCT_FIELDS: &[Item] = &[
-    more!(FieldNames), word!(DoubleColon), leaf!(Type), closing!(Fields), closing!(StructFields),
+const FIELD_DECL: &[Item] = &[
+    more!(FieldNames),
+    word!(DoubleColon),
+    leaf!(Type),
+    closing!(Fields),
 ];
 
-const DEPEND: &[Item] = &[counted!(Vars, One), word!(RightArrow), plain!(SomeVars), closing!(Depend)];
-const SIG_NAMES: &[Item] = &[more!(Names), word!(DoubleColon), leaf!(Qualified), closing!(Sig), NEXT_SIG];
+const BIT_FIELDS: &[Item] = &[
+    more!(FieldNames),
+    word!(DoubleColon),
+    leaf!(Type),
+    closing!(Fields),
+    closing!(BitFields),
+];
+
+const FIRST_BIT_FIELDS: &[Item] = &[
+    more!(FieldNames),
+    word!(DoubleColon),
+    leaf!(Type),
+    closing!(Fields),
+    closing!(BitFields),
+    counted!(MoreBitParts, One),
+];
+
+const STRUCT_FIELDS: &[Item] = &[
+    more!(FieldNames),
+    word!(DoubleColon),
+    leaf!(Type),
+    closing!(Fields),
+    closing!(StructFields),
+];
+
+const DEPEND: &[Item] = &[
+    counted!(Vars, One),
+    word!(RightArrow),
+    plain!(SomeVars),
+    closing!(Depend),
+];
+
+const SIG_NAMES: &[Item] = &[
+    more!(Names),
+    word!(DoubleColon),
+    leaf!(Qualified),
+    closing!(Sig),
+    NEXT_SIG,
+];
+
 const SIG_BRACKETED: &[Item] = &[
-    OPERATOR, mark!(b')'), more!(Names), word!(DoubleColon), leaf!(Qualified), closing!(Sig), NEXT_SIG,
+    OPERATOR,
+    mark!(b')'),
+    more!(Names),
+    word!(DoubleColon),
+    leaf!(Qualified),
+    closing!(Sig),
+    NEXT_SIG,
 ];
 
 /// What stands behind the names of a signature and `::`.
@@ -120,9 +206,21 @@ fn fixed(fix: Fix) -> &'static [Item]
     ensures { result.now ≡ behind (production.Fixed fix) }
 {
     match fix {
-        Fix::Left => &[plain!(Infix), more!(Infixes), counted!(Close(Form::Fixity(Fix::Left)), Read)],
-        Fix::Right => &[plain!(Infix), more!(Infixes), counted!(Close(Form::Fixity(Fix::Right)), Read)],
-        Fix::Neither => &[plain!(Infix), more!(Infixes), counted!(Close(Form::Fixity(Fix::Neither)), Read)],
+        Fix::Left => &[
+            plain!(Infix),
+            more!(Infixes),
+            counted!(Close(Form::Fixity(Fix::Left)), Read),
+        ],
+        Fix::Right => &[
+            plain!(Infix),
+            more!(Infixes),
+            counted!(Close(Form::Fixity(Fix::Right)), Read),
+        ],
+        Fix::Neither => &[
+            plain!(Infix),
+            more!(Infixes),
+            counted!(Close(Form::Fixity(Fix::Neither)), Read),
+        ],
     }
 }
 
@@ -131,8 +229,16 @@ fn address(dir: Dir) -> &'static [Item]
     ensures { result.now ≡ behind (production.Address dir) }
 {
     match dir {
-        Dir::In => &[leaf!(Atype), word!(At), plain!(One(Kind::Bits, Put::Port(Dir::In)))],
-        Dir::Out => &[leaf!(Atype), word!(At), plain!(One(Kind::Bits, Put::Port(Dir::Out)))],
+        Dir::In => &[
+            leaf!(Atype),
+            word!(At),
+            plain!(One(Kind::Bits, Put::Port(Dir::In))),
+        ],
+        Dir::Out => &[
+            leaf!(Atype),
+            word!(At),
+            plain!(One(Kind::Bits, Put::Port(Dir::Out))),
+        ],
     }
 }
 
@@ -146,7 +252,10 @@ fn more(things: Things) -> &'static [Item]
         Things::FieldNames => &[VAR, counted!(More(Things::FieldNames), Next)],
         Things::DataCons => &[plain!(DataCon), counted!(More(Things::DataCons), Next)],
         Things::BitCons => &[plain!(BitCon), counted!(More(Things::BitCons), Next)],
-        Things::StructParts => &[plain!(StructPart), counted!(More(Things::StructParts), Next)],
+        Things::StructParts => &[
+            plain!(StructPart),
+            counted!(More(Things::StructParts), Next),
+        ],
         Things::Depends => &[plain!(Depend), counted!(More(Things::Depends), Next)],
         Things::Preds => &[leaf!(Pred), counted!(More(Things::Preds), Next)],
     }

@@ -132,13 +132,7 @@ pub fn digit(token: &Token) -> Option<u64>
     ensures { result ≡ digit token.now }
 {
     match token.kind {
-        TokenKind::Number(number) => {
-            if number <= 9 {
-                Some(number)
-            } else {
-                None
-            }
-        }
+        TokenKind::Number(number) => { if number <= 9 { Some(number) } else { None } }
         _ => None,
     }
 }
