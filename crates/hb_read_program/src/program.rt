@@ -1,6 +1,5 @@
 ghost use Rattle.std.specs.Prelude.{◌≡◌, IfOk};
 ghost use Rattle.hb_read_program.specs.Frames.{program_engine};
-ghost use Rattle.hb_read_program.specs.Running.{Moved};
 
 use crate::frame::Frame;
 use crate::run::Run;
@@ -49,12 +48,15 @@ impl ProgramReader {
         })
     }
 
-    /// Takes the token if it can stand here, and answers whether it did. After false the reader is not used again.
-    pub fn take(&mut self, token: Token) -> Result<bool, Memory>
-        ensures { IfOk result (λ taken. Moved taken (program_engine.move self.old token) self.new) }
+    /// Takes the token, or is gone where none such can stand here.
+    pub fn take(mut self, token: Token) -> Result<Option<ProgramReader>, Memory>
+        ensures { IfOk result (λ next. next ≡ program_engine.move self token) }
     {
-        let taken = self.run.take(self.alloc, &token)?;
-        Ok(taken)
+        if self.run.take(self.alloc, &token)? {
+            Ok(Some(self))
+        } else {
+            Ok(None)
+        }
     }
 
     /// The nodes of the program, where the tokens taken are a whole one with its end.
