@@ -34,3 +34,4 @@ pub mod MeansDecls
 pub mod MeansClosed
 pub mod Ending
 pub mod Exactness
+pub mod Running

@@ -1,3 +1,5 @@
 pub mod Rules
 pub mod Frames
 pub mod Sets
+pub mod Running
+pub mod RunningCodes

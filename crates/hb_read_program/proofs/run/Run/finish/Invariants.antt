@@ -1,0 +1,11 @@
+use Rattle.std.proofs.Common.{◌≡◌, length}
+use Rattle.hb_engine.specs.Tables.{whole}
+use Rattle.hb_read_program.specs.Frames.{rules}
+use Rattle.hb_read_program.specs.Running.{seen}
+use Rattle.hb_read_program.proofs.run.Run.finish.Given as goal
+
+abbrev pub invariant-loop-frame : goal.invariant-loop-frame
+invariant-loop-frame l = whole rules (seen l.self.frames) l.self.nodes ≡ whole rules (seen l.initial.self.frames) l.initial.self.nodes
+
+abbrev pub decreases-loop-frame : goal.decreases-loop-frame
+decreases-loop-frame l = length l.self.frames
