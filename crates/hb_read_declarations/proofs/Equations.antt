@@ -16,10 +16,10 @@ use Rattle.hb_read_expressions.specs.Moves.{equation_reader}
 use Rattle.hb_read_declarations.specs.Codes.{member, not}
 use Rattle.hb_read_declarations.specs.Nodes.{valued, bind_of}
 use Rattle.hb_read_declarations.specs.Readers.{an_equation}
-use Rattle.hb_read_declarations.proofs.Known.{Known}
-use Rattle.hb_read_declarations.proofs.Fine.{Fine, fine_by}
+use Rattle.hb_read_declarations.proofs.Known.{Known, known_by}
+use Rattle.hb_read_declarations.proofs.MappedLaws.{worth_known}
 use Rattle.hb_read_declarations.specs.Exactly.{Made}
-use Rattle.hb_read_declarations.proofs.Lists.{Block, no_thing, empty_thing, last_in, more_in, fine_again}
+use Rattle.hb_read_declarations.proofs.Lists.{Block, no_thing, empty_thing, last_in, more_in}
 
 -- what an equation begins with: names, `_`, numbers, bits and `(`
 abbrev pub equation_codes : List ℕ
@@ -60,8 +60,10 @@ made_of e (equation_read {name} {row} h) = record { name = name; row = equations
 pub made_equation : {ts us : List Token} {v : List ExprNode} → Made EquationRead bind_nodes ts v us → EquationOf ts v us
 made_equation m = made_of m.is m.read
 
-abbrev pub equation_fine : (pats : PatReader) → EquationKnown pats → Fine (an_equation pats) (Made EquationRead bind_of)
-equation_fine pats k = fine_again bind_nodes valued (fine_by (λ ts v us h. equation_made h) (λ ts v us h. made_equation h) (record { null = false; first = equation_codes; goes = λ c. member c going_codes; uses = inside; known = k }))
+pub an_equation_known : (pats : PatReader) → EquationKnown pats →
+  Known (an_equation pats) (Made EquationRead bind_of) false equation_codes (λ c. member c going_codes) inside
+an_equation_known pats k =
+    worth_known bind_nodes valued (known_by (λ ts v us h. equation_made h) (λ ts v us h. made_equation h) k)
 
 -- blocks of equations
 

@@ -1,5 +1,5 @@
 -- The kinds of tokens as numbers, so that sets of them can be compared by computing.
-use Rattle.std.specs.Prelude.{ℕ, ◌+◌, ◌==◌, Bool, true, false, List, [], ◌∷◌, if◌then◌else◌}
+use Rattle.std.specs.Prelude.{if◌then◌else◌, ℕ, ◌+◌, ◌==◌, Bool, true, false, List, [], ◌∷◌}
 use Rattle.hb_base.specs.declared.name.Name.{Name}
 use Rattle.hb_base.specs.Fixed.{wildcard}
 use Rattle.hb_tokens.specs.declared.token.Token.{Token}
@@ -85,12 +85,3 @@ not false = true
 abbrev pub apart : (ℕ → Bool) → List ℕ → Bool
 apart set [] = true
 apart set (x ∷ xs) = if set x then false else apart set xs
-
--- the second set where something may be left out
-abbrev pub also : Bool → List ℕ → List ℕ
-also true xs = xs
-also false xs = []
-
-abbrev pub also_in : Bool → Bool → Bool
-also_in true b = b
-also_in false b = false

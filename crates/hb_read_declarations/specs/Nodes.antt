@@ -25,7 +25,11 @@ use Rattle.hb_read_expressions.specs.declared.node.ExprNode.{ExprNode}
 use Rattle.hb_read_expressions.specs.Nodes.{expr_nodes, put_rows}
 use Rattle.hb_read_declarations.specs.declared.node.DeclNode.{DeclNode}
 use Rattle.hb_read_declarations.specs.declared.node.DeclNode.TheVariants as node
-pub use Rattle.hb_read_declarations.specs.declared.parts.Counted.{Counted}
+
+-- so many things, and the nodes of them all
+pub record Counted : Type 0 where
+  pub count : ℕ
+  pub nodes : List DeclNode
 
 abbrev pub counted_as : ℕ → List DeclNode → Counted
 counted_as count nodes = record { count = count; nodes = nodes }

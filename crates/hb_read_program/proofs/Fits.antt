@@ -19,9 +19,8 @@ use Rattle.hb_read_declarations.specs.Nodes.{typed}
 use Rattle.hb_read_declarations.specs.Readers.{Out, an_equation}
 use Rattle.hb_read_declarations.specs.Worths.{var, con, op, this_word, mark}
 use Rattle.hb_read_declarations.proofs.Known.{Known, some_is, some_place}
-use Rattle.hb_read_declarations.proofs.Lists.{fine_again}
 use Rattle.hb_read_declarations.proofs.WorthLaws.{var_code, con_code, op_code, word_is_code, mark_code}
-use Rattle.hb_read_declarations.proofs.Typing.{in_types, context_bare_fine}
+use Rattle.hb_read_declarations.proofs.Typing.{a_context_known}
 use Rattle.hb_read_program.specs.Rules.{Leaf, Symbol, Item, a_con, plain}
 use Rattle.hb_read_program.specs.declared.symbol.Symbol.TheVariants as symbol
 use Rattle.hb_read_program.specs.Frames.{LeafState, leaf_reader, a_context, Frame, waits, reads, reads_line, reads_class, ATurn, turn_to, frames_of, Side, Heading, Spot, spot_if, name_spot, operator_spot, close_spot, comma_if, spot_moved, side_moved, side_start, sig_if, sig_turn, as_sig, still_line, expr_moved, or_line, line_turn, first_heading, next_heading, heading_moved, context_moved, context_whole, still_class, class_turn}
@@ -33,9 +32,6 @@ use Rattle.hb_read_program.proofs.TableLaws.{within_is}
 
 abbrev pub an_eq : Reader State Out
 an_eq = an_equation pat_start
-
-pub context_fine : Known a_context (Made ReadsContext (λ a. typed (context_nodes a))) false type_codes in_types in_types
-context_fine = (fine_again context_nodes typed context_bare_fine).known
 
 -- frames that come about
 
@@ -215,4 +211,4 @@ context_code None t e = cc
 context_code (Some s) t e = from_some (some_place (a_context.move s t) e)
   where
     from_some : (r : ContextReader) × (a_context.move s t ≡ Some r) → member (code t) type_codes ≡ true
-    from_some (r, d) = context_fine.takes d
+    from_some (r, d) = a_context_known.takes d

@@ -1,5 +1,4 @@
 pub mod Checked
-pub mod LeafExpr
 pub mod TableLaws
 pub mod Fits
 pub mod Turns

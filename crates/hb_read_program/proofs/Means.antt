@@ -24,12 +24,11 @@ use Rattle.hb_read_declarations.specs.Nodes.{counted, closed, named, names_of, n
 use Rattle.hb_read_declarations.specs.Readers.{Out, no_context}
 use Rattle.hb_read_declarations.proofs.Lists.{Several, Behind, Block}
 use Rattle.hb_read_declarations.proofs.Leaves.{VarRead, ConRead}
-use Rattle.hb_read_declarations.proofs.Smaller.{NameRead, InfixRead, SomeVars}
-use Rattle.hb_read_declarations.proofs.Plain.{IsBar, DataConRead}
-use Rattle.hb_read_declarations.proofs.Typing.{Qualified, QualifiedRead}
+use Rattle.hb_read_declarations.proofs.Names.{NameRead, InfixRead, SomeVars}
+use Rattle.hb_read_declarations.proofs.Parts.{IsBar, DataConRead, ClassHeadRead, class_head_of, SomeTypes, args_of}
+use Rattle.hb_read_declarations.proofs.Typing.{Qualified, QualifiedRead, qualified_of}
 use Rattle.hb_read_declarations.proofs.Equations.{EquationRead}
-use Rattle.hb_read_declarations.proofs.Blocked.{qualified_of, ClassHeadRead, class_head_of, SomeTypes, args_of}
-use Rattle.hb_read_declarations.proofs.InitExact.{expr_of}
+use Rattle.hb_read_declarations.proofs.ExprTokens.{expr_of}
 use Rattle.hb_read_program.specs.Rules.{Leaf, Symbol, Kind, Put, Form, Things, fits, node_of, put_out}
 use Rattle.hb_read_program.specs.declared.symbol.Leaf.TheVariants as leaf
 use Rattle.hb_read_program.specs.declared.symbol.Symbol.TheVariants as symbol

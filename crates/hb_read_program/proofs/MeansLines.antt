@@ -24,10 +24,9 @@ use Rattle.hb_read_declarations.specs.Readers.{Out}
 use Rattle.hb_read_declarations.specs.Worths.{var, op, mark}
 use Rattle.hb_read_declarations.proofs.Known.{some_is, Of, of, mapped_of}
 use Rattle.hb_read_declarations.proofs.Lists.{nothing_more, a_thing, behind as behind_mark}
-use Rattle.hb_read_declarations.proofs.Smaller.{NameRead, names_from}
-use Rattle.hb_read_declarations.proofs.Typing.{Qualified}
+use Rattle.hb_read_declarations.proofs.Names.{NameRead, names_from}
+use Rattle.hb_read_declarations.proofs.Typing.{Qualified, qualified_of}
 use Rattle.hb_read_declarations.proofs.Equations.{EquationRead, equation_read}
-use Rattle.hb_read_declarations.proofs.Blocked.{qualified_of}
 use Rattle.hb_read_declarations.proofs.WorthLaws.{var_of, op_of, mark_of}
 use Rattle.hb_read_program.specs.Rules.{item, fits}
 use Rattle.hb_read_program.specs.declared.symbol.Kind.TheVariants as kind

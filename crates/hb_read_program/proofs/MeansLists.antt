@@ -15,9 +15,8 @@ use Rattle.hb_read_declarations.specs.Nodes.{counted, closed, named, type_of, pr
 use Rattle.hb_read_declarations.specs.Readers.{Out}
 use Rattle.hb_read_declarations.proofs.Lists.{Several, nothing_more, a_thing, Behind, behind as behind_mark, Separated, last_thing, more_things}
 use Rattle.hb_read_declarations.proofs.Leaves.{VarRead, var_read}
-use Rattle.hb_read_declarations.proofs.Smaller.{some_vars}
-use Rattle.hb_read_declarations.proofs.Plain.{data_con}
-use Rattle.hb_read_declarations.proofs.Blocked.{some_types}
+use Rattle.hb_read_declarations.proofs.Names.{some_vars}
+use Rattle.hb_read_declarations.proofs.Parts.{data_con, some_types}
 use Rattle.hb_read_program.specs.Rules.{Things, head, mute, mark_head, word_head, between, things_form, node_of, name_in, number_in, item}
 use Rattle.hb_read_program.specs.declared.symbol.Kind.TheVariants as kind
 use Rattle.hb_read_program.specs.declared.symbol.Put.TheVariants as put

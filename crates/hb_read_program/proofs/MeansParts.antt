@@ -26,9 +26,8 @@ use Rattle.hb_read_declarations.specs.Nodes.{counted, closed, named, names_of, t
 use Rattle.hb_read_declarations.specs.Readers.{Out}
 use Rattle.hb_read_declarations.proofs.Lists.{Several, nothing_more, a_thing, Behind, behind as behind_mark}
 use Rattle.hb_read_declarations.proofs.Leaves.{VarRead, var_read}
-use Rattle.hb_read_declarations.proofs.Smaller.{field_names_from, infixes_from, some_vars}
-use Rattle.hb_read_declarations.proofs.Plain.{IsBar, bit_parts_from}
-use Rattle.hb_read_declarations.proofs.Blocked.{depend_list_from, preds_from}
+use Rattle.hb_read_declarations.proofs.Names.{field_names_from, infixes_from, some_vars}
+use Rattle.hb_read_declarations.proofs.Parts.{IsBar, bit_parts_from, depend_list_from, preds_from}
 use Rattle.hb_read_program.specs.Rules.{head, mute, word_head, close_head, fits, name_in, number_in, width_in, bits_in, digit_in}
 use Rattle.hb_read_program.specs.declared.symbol.Kind.TheVariants as kind
 use Rattle.hb_read_program.specs.declared.symbol.Put.TheVariants as put

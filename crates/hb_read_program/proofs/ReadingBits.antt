@@ -18,7 +18,7 @@ use Rattle.hb_read_declarations.specs.Nodes.{named, counted, number_of, bit_part
 use Rattle.hb_read_declarations.specs.Readers.{Out}
 use Rattle.hb_read_declarations.proofs.Known.{if_true}
 use Rattle.hb_read_declarations.proofs.Lists.{Several, nothing_more, a_thing, Behind, behind as behind_mark, HeadTail, head_tail, head_of}
-use Rattle.hb_read_declarations.proofs.Plain.{IsBar, bit_parts_back, bit_cons_back}
+use Rattle.hb_read_declarations.proofs.Parts.{IsBar, bit_parts_back, bit_cons_back}
 use Rattle.hb_read_program.specs.Rules.{head, heads, found, fits, item, closing, width_in, bits_in}
 use Rattle.hb_read_program.specs.declared.symbol.Kind.TheVariants as kind
 use Rattle.hb_read_program.specs.declared.symbol.Put.TheVariants as put

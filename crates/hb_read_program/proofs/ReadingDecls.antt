@@ -18,7 +18,7 @@ use Rattle.hb_read_declarations.specs.declared.node.DeclNode.TheVariants as node
 use Rattle.hb_read_declarations.specs.Nodes.{named, counted, names_of, data_con_of, decl_nodes}
 use Rattle.hb_read_declarations.specs.Readers.{Out}
 use Rattle.hb_read_declarations.proofs.Lists.{head_of}
-use Rattle.hb_read_declarations.proofs.Smaller.{NameRead, names_back}
+use Rattle.hb_read_declarations.proofs.Names.{NameRead, names_back}
 use Rattle.hb_read_program.specs.Rules.{heads}
 use Rattle.hb_read_program.specs.declared.symbol.Symbol.TheVariants as symbol
 use Rattle.hb_read_program.specs.declared.symbol.Things.TheVariants as things

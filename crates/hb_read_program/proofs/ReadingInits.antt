@@ -17,7 +17,7 @@ use Rattle.hb_read_declarations.specs.Nodes.{named, fields_count, init_nodes, fi
 use Rattle.hb_read_declarations.specs.Readers.{Out}
 use Rattle.hb_read_declarations.proofs.Known.{if_true}
 use Rattle.hb_read_declarations.proofs.Lists.{made}
-use Rattle.hb_read_declarations.proofs.InitExact.{expr_of}
+use Rattle.hb_read_declarations.proofs.ExprTokens.{expr_of}
 use Rattle.hb_read_program.specs.Rules.{heads, fits, closing}
 use Rattle.hb_read_program.specs.declared.symbol.Kind.TheVariants as kind
 use Rattle.hb_read_program.specs.declared.symbol.Symbol.TheVariants as symbol

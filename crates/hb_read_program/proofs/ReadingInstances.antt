@@ -23,7 +23,7 @@ use Rattle.hb_read_declarations.specs.declared.node.DeclNode.TheVariants as node
 use Rattle.hb_read_declarations.specs.Nodes.{named, counted, type_of, pred_of, bind_of}
 use Rattle.hb_read_declarations.specs.Readers.{Out}
 use Rattle.hb_read_declarations.proofs.Lists.{made, head_of, Block, no_thing, empty_thing, last_in, more_in}
-use Rattle.hb_read_declarations.proofs.Blocked.{preds_back}
+use Rattle.hb_read_declarations.proofs.Parts.{preds_back}
 use Rattle.hb_read_declarations.proofs.Equations.{EquationRead, binds_back}
 use Rattle.hb_read_program.specs.Rules.{heads, item}
 use Rattle.hb_read_program.specs.declared.symbol.Kind.TheVariants as kind

@@ -20,7 +20,7 @@ use Rattle.hb_read_declarations.specs.Nodes.{named, counted, type_of, data_con_o
 use Rattle.hb_read_declarations.specs.Readers.{Out}
 use Rattle.hb_read_declarations.proofs.Known.{if_true}
 use Rattle.hb_read_declarations.proofs.Lists.{made, Several, nothing_more, a_thing, Behind, behind as behind_mark, HeadTail, head_tail, head_of}
-use Rattle.hb_read_declarations.proofs.Plain.{DataConRead, data_con, data_cons_back}
+use Rattle.hb_read_declarations.proofs.Parts.{DataConRead, data_con, data_cons_back}
 use Rattle.hb_read_program.specs.Rules.{Symbol, Head, Things, heads, between, thing, things_form, fits, found, node_of, name_in, item}
 use Rattle.hb_read_program.specs.declared.symbol.Kind.TheVariants as kind
 use Rattle.hb_read_program.specs.declared.symbol.Put.TheVariants as put

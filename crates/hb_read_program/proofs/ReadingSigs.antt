@@ -22,7 +22,7 @@ use Rattle.hb_read_declarations.specs.Nodes.{named, names_of, counted, typed, si
 use Rattle.hb_read_declarations.specs.Readers.{Out}
 use Rattle.hb_read_declarations.proofs.Known.{if_true}
 use Rattle.hb_read_declarations.proofs.Lists.{made, HeadTail, head_tail, head_of}
-use Rattle.hb_read_declarations.proofs.Smaller.{NameRead, names_back}
+use Rattle.hb_read_declarations.proofs.Names.{NameRead, names_back}
 use Rattle.hb_read_declarations.proofs.Typing.{Qualified}
 use Rattle.hb_read_program.specs.Rules.{head, heads, found, fits, name_in}
 use Rattle.hb_read_program.specs.declared.symbol.Kind.TheVariants as kind
