@@ -61,7 +61,7 @@ pub made_equation : {ts us : List Token} {v : List ExprNode} → Made EquationRe
 made_equation m = made_of m.is m.read
 
 pub an_equation_known : (pats : PatReader) → EquationKnown pats →
-  Known (an_equation pats) (Made EquationRead bind_of) false equation_codes (λ c. member c going_codes) inside
+    Known (an_equation pats) (Made EquationRead bind_of) false equation_codes (λ c. member c going_codes) inside
 an_equation_known pats k =
     worth_known bind_nodes valued (known_by (λ ts v us h. equation_made h) (λ ts v us h. made_equation h) k)
 

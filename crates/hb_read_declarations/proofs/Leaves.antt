@@ -1,5 +1,5 @@
 -- One token: some token of a kind, and a name that is read.
-use Rattle.std.proofs.Common.{List, [], ◌∷◌}
+use Rattle.std.proofs.Common.{List, ◌∷◌}
 use Rattle.hb_base.specs.declared.name.Name.{Name}
 use Rattle.hb_tokens.specs.declared.token.Token.{Token}
 use Rattle.hb_tokens.specs.declared.token.TokenKind.{TokenKind}

@@ -1,5 +1,5 @@
 -- Several things of one kind: any number, some with a mark between, and a block.
-use Rattle.std.proofs.Common.{◌≡◌, ◌+◌, List, [], ◌∷◌, ◌++◌, refl, ◌∙◌}
+use Rattle.std.proofs.Common.{List, [], ◌∷◌, refl}
 use Rattle.hb_tokens.specs.declared.token.Token.{Token}
 use Rattle.hb_grammar.specs.Tokens.{IsSemicolon, IsCloseBrace}
 use Rattle.hb_read_declarations.specs.Exactly.{Made}

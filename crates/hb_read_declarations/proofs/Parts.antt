@@ -32,7 +32,7 @@ IsBar t = IsWord word.Bar t
 
 pub data DataConRead : List Token → DataCon → List Token → Type 0 where
   data_con : {t : Token} {ts us : List Token} {name : Name} {args : List TypeExpr} → IsCon name t → ReadsAtypes ts args us →
-    DataConRead (t ∷ ts) (record { name = name_at t name; args = args }) us
+      DataConRead (t ∷ ts) (record { name = name_at t name; args = args }) us
 
 last_data : {ts us : List Token} {c : DataCon} → DataConRead ts c us → ReadsDataCons ts (c ∷ []) us
 last_data (data_con d h) = grammar.last_con d h
@@ -116,5 +116,5 @@ class_head_of h = context_of h.context ++ (named h.name ++ names_of h.params)
 
 pub data ClassHeadRead : List Token → ClassHead → List Token → Type 0 where
   class_head : {ts us vs ws : List Token} {ps : List PredExpr} {n : NameAt} {params : List NameAt} →
-    ReadsSupers ts ps us → ConRead us n vs → SomeVars vs params ws →
-    ClassHeadRead ts (record { context = ps; name = n; params = params }) ws
+      ReadsSupers ts ps us → ConRead us n vs → SomeVars vs params ws →
+      ClassHeadRead ts (record { context = ps; name = n; params = params }) ws

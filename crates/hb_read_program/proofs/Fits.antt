@@ -6,19 +6,15 @@ use Rattle.hb_tokens.specs.declared.token.Token.{Token}
 use Rattle.hb_tokens.specs.declared.word.Word.TheVariants as word
 use Rattle.hb_tree.specs.declared.types.NameAt.{NameAt}
 use Rattle.hb_grammar.specs.Reading.{Reader, Reached}
-use Rattle.hb_grammar.specs.Types.{ReadsContext}
 use Rattle.hb_engine.specs.Lawful.{either}
-use Rattle.hb_read_types.specs.Nodes.{context_nodes}
 use Rattle.hb_read_types.specs.declared.context_reader.ContextReader.{ContextReader}
 use Rattle.hb_read_patterns.specs.Moves.{pat_start}
 use Rattle.hb_read_expressions.specs.declared.state.State.{State}
 use Rattle.hb_read_declarations.specs.Codes.{code, member}
 use Rattle.hb_read_declarations.specs.Combined.{mapped}
-use Rattle.hb_read_declarations.specs.Exactly.{Made}
-use Rattle.hb_read_declarations.specs.Nodes.{typed}
 use Rattle.hb_read_declarations.specs.Readers.{Out, an_equation}
 use Rattle.hb_read_declarations.specs.Worths.{var, con, op, this_word, mark}
-use Rattle.hb_read_declarations.proofs.Known.{Known, some_is, some_place}
+use Rattle.hb_read_declarations.proofs.Known.{some_is, some_place}
 use Rattle.hb_read_declarations.proofs.WorthLaws.{var_code, con_code, op_code, word_is_code, mark_code}
 use Rattle.hb_read_declarations.proofs.Typing.{a_context_known}
 use Rattle.hb_read_program.specs.Rules.{Leaf, Symbol, Item, a_con, plain}
