@@ -1,5 +1,5 @@
 -- Each frame can be ended, and the table is lawful: the machine reads just what the table says.
-use Rattle.std.proofs.Common.{◌≡◌, ℕ, zero, suc, ◌+◌, Bool, true, false, List, [], ◌∷◌, ◌++◌, Option, Some, None, is_some, refl, sym, ap, subst, ◌∙◌, arith}
+use Rattle.std.proofs.Common.{◌≡◌, ℕ, zero, suc, ◌+◌, Bool, true, false, List, [], ◌∷◌, ◌++◌, Option, Some, None, is_some, refl, sym, ap, subst, ◌∙◌}
 use Rattle.hb_base.specs.declared.name.Name.{Name}
 use Rattle.hb_base.specs.declared.place.Place.{Place}
 use Rattle.hb_base.specs.Fixed.{pad, slash}
@@ -34,6 +34,7 @@ use Rattle.hb_read_program.specs.declared.side.Side.TheVariants as side
 use Rattle.hb_read_program.specs.declared.side.Spot.TheVariants as spot
 use Rattle.hb_read_program.specs.declared.side.Heading.TheVariants as heading
 use Rattle.hb_read_program.specs.Sets.{begin_codes, is_nothing, only_if, within, first, follow, apart_heads, heads_keep, leaf_keeps, ends_within, ends_by, items_end}
+use Rattle.hb_read_program.proofs.Counting.{next_suc}
 use Rattle.hb_read_program.proofs.Checked.{table_keeps, table_ends}
 use Rattle.hb_read_program.proofs.TableLaws.{LeafReads, leaf_known, found_none, fits_code, both_left, both_right}
 use Rattle.hb_read_program.proofs.Fits.{an_eq, gone_side, live_side, Fit, fit_waits, fit_reads, fit_line, fit_class, frame_first, frame_follow, side_lives, heading_lives, class_items}
@@ -198,7 +199,7 @@ abbrev a_name : NameAt
 a_name = record { place = record { line = 0; col = 0 }; name = pad }
 
 pub names_nothing : (k : ℕ) (out : Out) → class_nothing (heading.Names (k + 1) out) ≡ Some (no_context ++ (out ++ node.Names (suc k) ∷ []))
-names_nothing k out = let e : k + 1 ≡ suc k = omega arith in ap (λ m. class_nothing (heading.Names m out)) e
+names_nothing k out = ap (λ m. class_nothing (heading.Names m out)) (next_suc k)
 
 names_ended : (c : Option ContextReader) (k : ℕ) (out : Out) → Ended (reads_class c (heading.Names k out) ∷ [])
 names_ended c k out =

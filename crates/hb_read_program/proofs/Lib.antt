@@ -1,4 +1,5 @@
 pub mod Checked
+pub mod Counting
 pub mod TableLaws
 pub mod Fits
 pub mod Turns

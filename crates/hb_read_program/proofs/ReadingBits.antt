@@ -28,9 +28,10 @@ use Rattle.hb_read_program.specs.declared.symbol.Count.TheVariants as count
 use Rattle.hb_read_program.specs.declared.symbol.Form.TheVariants as form
 use Rattle.hb_read_program.specs.declared.symbol.Production.TheVariants as production
 use Rattle.hb_read_program.specs.Frames.{waits}
+use Rattle.hb_read_program.proofs.Counting.{none_more, counts}
 use Rattle.hb_read_program.proofs.Finishes.{Rows, rows_as}
 use Rattle.hb_read_program.proofs.Reading.{by_head, by_nothing, a_con, a_word, a_mark, con_fits, word_fits, name_put}
-use Rattle.hb_read_program.proofs.ReadingLists.{found_at, Puts, things_read, counts, none_more}
+use Rattle.hb_read_program.proofs.ReadingLists.{found_at, Puts, things_read}
 use Rattle.hb_read_program.proofs.ReadingDecls.{DeclPuts, three_closed}
 use Rattle.hb_read_program.proofs.ReadingParts.{size_read}
 use Rattle.hb_read_program.proofs.ReadingFields.{row_from, var_token, var_there, fields_read, by_fields}

@@ -1,5 +1,5 @@
 -- What the grammar says is what the table says: several things with a mark between, and a data type.
-use Rattle.std.proofs.Common.{◌≡◌, ℕ, ◌+◌, true, List, [], ◌∷◌, ◌++◌, refl, sym, ap, ◌∙◌, append_assoc, arith}
+use Rattle.std.proofs.Common.{◌≡◌, ℕ, ◌+◌, true, List, [], ◌∷◌, ◌++◌, refl, sym, ap, ◌∙◌, append_assoc}
 use Rattle.hb_base.specs.declared.name.Name.{Name}
 use Rattle.hb_base.specs.declared.place.Place.{Place}
 use Rattle.hb_tokens.specs.declared.token.Token.{Token}
@@ -30,6 +30,7 @@ use Rattle.hb_read_program.specs.declared.symbol.Count.TheVariants as count
 use Rattle.hb_read_program.specs.declared.symbol.Leaf.TheVariants as leaf
 use Rattle.hb_read_program.specs.declared.symbol.Form.TheVariants as form
 use Rattle.hb_read_program.specs.Frames.{waits}
+use Rattle.hb_read_program.proofs.Counting.{none_plus, none_more, counts}
 use Rattle.hb_read_program.proofs.Finishes.{Rows, rows_as, LeafBegun, leaf_begun, leaf_symbol}
 use Rattle.hb_read_program.proofs.Reading.{by_head, by_nothing, a_token, var_fits, con_fits, op_fits, word_fits, name_put, a_mark}
 
@@ -57,15 +58,6 @@ things_node_is things.BitCons p n = refl
 things_node_is things.StructParts p n = refl
 things_node_is things.Depends p n = refl
 things_node_is things.Preds p n = refl
-
-pub none_more : (n : ℕ) → n ≡ n + 0
-none_more n = omega arith
-
-pub none_plus : (n : ℕ) → 0 + n ≡ n
-none_plus n = omega arith
-
-pub counts : (a b : ℕ) → (a + 1) + b ≡ a + (1 + b)
-counts a b = omega arith
 
 -- what is asked of the things
 abbrev pub Puts : {A : Type 0} → Symbol → (List Token → A → List Token → Type 0) → (A → Out) → Type 0
