@@ -21,7 +21,7 @@ use Rattle.hb_read_program.proofs.Means.{OneToken, one_fits, closes, LeafMeans, 
 use Rattle.hb_read_program.proofs.MeansLaws.{made_thing, leaf_means, HeadLaw, no_other, and_also, BehindLeaf, BehindLine, LeafLaw, no_leaf_law, leaf_law, line_law, class_law, never_law, nothing_law, SymbolLaw, Picked, picked, null_means}
 use Rattle.hb_read_program.proofs.MeansLists.{more_law, name_law, infix_law, vars_law, some_vars_law, atypes_law, some_atypes_law, size_law, align_law, data_con_law}
 use Rattle.hb_read_program.proofs.MeansInits.{field_law, more_inits_law, init_law, start_law}
-use Rattle.hb_read_program.proofs.MeansParts.{field_decl_law, bit_part_law, bit_parts_law, more_bit_parts_law, bit_con_law, struct_part_law, digit_law, direction_law, depend_law, depends_law, conditions_law}
+use Rattle.hb_read_program.proofs.MeansParts.{bit_part_law, bit_parts_law, more_bit_parts_law, bit_con_law, struct_part_law, digit_law, direction_law, depend_law, depends_law, conditions_law}
 use Rattle.hb_read_program.proofs.MeansBlocks.{sigs_law, after_sig_law, methods_law, rows_law, after_row_law, body_law, after_top_law}
 use Rattle.hb_read_program.proofs.MeansLines.{line_null, line_turns}
 use Rattle.hb_read_program.proofs.MeansClass.{class_null, class_turns, class_head_law}
@@ -65,7 +65,6 @@ symbol_law symbol.SomeAtypes = some_atypes_law
 symbol_law symbol.Size = size_law
 symbol_law symbol.Align = align_law
 symbol_law symbol.DataCon = data_con_law
-symbol_law symbol.FieldDecl = field_decl_law
 symbol_law symbol.BitPart = bit_part_law
 symbol_law symbol.BitParts = bit_parts_law
 symbol_law symbol.MoreBitParts = more_bit_parts_law

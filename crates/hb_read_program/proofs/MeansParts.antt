@@ -48,13 +48,6 @@ field_of : {t s : Token} {ts us vs : List Token} {ns : List NameAt} {a : TypeExp
 field_of {t} {s} e h f k =
     grammar.field_decl (field_names_from (with_more (var_read (is_var t e)) h)) (is_word word.DoubleColon s f) k
 
-field_decl_head : HeadLaw symbol.FieldDecl (head kind.Var put.Name production.FieldDecl)
-field_decl_head p n t ts us ms e (then (thing {a = ns} h) (then (one_fits {t = s} f) (then (thing {a} k) (then closes nothing)))) =
-    thing_as (field_at t ns a) (field_of e h f k) refl
-
-pub field_decl_law : SymbolLaw symbol.FieldDecl
-field_decl_law = record { by_head = and_also field_decl_head no_other; by_leaf = no_leaf_law; by_nothing = never_law }
-
 -- fields with a node behind
 
 fields_then : (f : FieldDecl) (b : DeclNode) → fields_of f ++ b ∷ [] ≡ names_of f.names ++ (type_of f.of ++ node.Fields ∷ b ∷ [])
