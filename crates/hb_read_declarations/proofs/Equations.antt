@@ -42,14 +42,19 @@ EquationKnown pats = Known (equation_reader pats) EquationOf false equation_code
 
 -- a definition of one row, at its first token
 pub data EquationRead : List Token → Bind → List Token → Type 0 where
-  equation_read : {ts us : List Token} {name : Name} {row : Equation} → ReadsEquation ts name (equations (row ∷ [])) us → EquationRead ts (record { name = name; place = first_place ts; rows = row ∷ [] }) us
+  equation_read : {ts us : List Token} {name : Name} {row : Equation} → ReadsEquation ts name (equations (row ∷ [])) us →
+      EquationRead ts (record { name = name; place = first_place ts; rows = row ∷ [] }) us
 
 abbrev bind_nodes : Bind → List ExprNode
 bind_nodes b = put_rows b.name b.place (equations b.rows) []
 
 row_made : {ts us : List Token} {v : List ExprNode} (name : Name) {row : Equations} → v ≡ put_rows name (first_place ts) row [] → ReadsEquation ts name row us → Made EquationRead bind_nodes ts v us
-row_made {ts} name e (grammar.plain {us} {ps} {e = x} d f h) = let row : Equation = record { pats = ps; first = first_place us; body = x; local = NoBinds } in record { thing = record { name = name; place = first_place ts; rows = row ∷ [] }; read = equation_read (grammar.plain d f h); is = e }
-row_made {ts} name e (grammar.with_where {us} {ps} {e = x} {bs} d f h g k) = let row : Equation = record { pats = ps; first = first_place us; body = x; local = bs } in record { thing = record { name = name; place = first_place ts; rows = row ∷ [] }; read = equation_read (grammar.with_where d f h g k); is = e }
+row_made {ts} name e (grammar.plain {us} {ps} {e = x} d f h) =
+    let row : Equation = record { pats = ps; first = first_place us; body = x; local = NoBinds } in
+    record { thing = record { name = name; place = first_place ts; rows = row ∷ [] }; read = equation_read (grammar.plain d f h); is = e }
+row_made {ts} name e (grammar.with_where {us} {ps} {e = x} {bs} d f h g k) =
+    let row : Equation = record { pats = ps; first = first_place us; body = x; local = bs } in
+    record { thing = record { name = name; place = first_place ts; rows = row ∷ [] }; read = equation_read (grammar.with_where d f h g k); is = e }
 
 pub equation_made : {ts us : List Token} {v : List ExprNode} → EquationOf ts v us → Made EquationRead bind_nodes ts v us
 equation_made h = row_made h.name h.is h.reads

@@ -38,7 +38,8 @@ expr_codes = 0 ∷ 2 ∷ 4 ∷ 5 ∷ 100 ∷ 45 ∷ 21 ∷ 26 ∷ 25 ∷ 23 ∷ 
 abbrev expr_begun : PatReader → Place → Sort → Option State
 expr_begun pats p x = with_pats pats (begin_expr [] [] p x)
 
-begun_if : {P : Type 0} (pats : PatReader) (p : Place) (b : Bool) (x y : Sort) → is_some (expr_begun pats p (cond b x y)) ≡ true → (b ≡ true → is_some (expr_begun pats p x) ≡ true → P) → (is_some (expr_begun pats p y) ≡ true → P) → P
+begun_if : {P : Type 0} (pats : PatReader) (p : Place) (b : Bool) (x y : Sort) → is_some (expr_begun pats p (cond b x y)) ≡ true →
+    (b ≡ true → is_some (expr_begun pats p x) ≡ true → P) → (is_some (expr_begun pats p y) ≡ true → P) → P
 begun_if pats p true x y e f g = f refl e
 begun_if pats p false x y e f g = g e
 

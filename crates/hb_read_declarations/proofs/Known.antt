@@ -96,7 +96,9 @@ run_before xs (take e h) = take e (run_before xs h)
 -- no token
 
 -- the same reader, and the family said in other words
-pub known_by : {S V : Type 0} {a : Reader S V} {A B : List Token → V → List Token → Type 0} {n : Bool} {first : List ℕ} {g u : ℕ → Bool} → ((ts : List Token) (v : V) (us : List Token) → A ts v us → B ts v us) → ((ts : List Token) (v : V) (us : List Token) → B ts v us → A ts v us) → Known a A n first g u → Known a B n first g u
+pub known_by : {S V : Type 0} {a : Reader S V} {A B : List Token → V → List Token → Type 0} {n : Bool} {first : List ℕ} {g u : ℕ → Bool} →
+    ((ts : List Token) (v : V) (us : List Token) → A ts v us → B ts v us) → ((ts : List Token) (v : V) (us : List Token) → B ts v us → A ts v us) →
+    Known a A n first g u → Known a B n first g u
 known_by f g k = record {
   exact = record {
     sound = λ {ts} {us} {a} h. f ts a us (k.exact.sound h);

@@ -26,7 +26,8 @@ pub data Behind {A : Type 0} (Sep : Token → Type 0) (Reads : List Token → A 
 pub data HeadTail {A : Type 0} (Sep : Token → Type 0) (Reads : List Token → A → List Token → Type 0) : List Token → List A → List Token → Type 0 where
   head_tail : {ts us vs : List Token} {a : A} {xs : List A} → Reads ts a us → Several (Behind Sep Reads) us xs vs → HeadTail Sep Reads ts (a ∷ xs) vs
 
-put_before : {A : Type 0} {Sep : Token → Type 0} {Reads : List Token → A → List Token → Type 0} (t : Token) {ts us vs : List Token} {a : A} {xs : List A} → Reads ts a (t ∷ us) → Sep t → HeadTail Sep Reads us xs vs → HeadTail Sep Reads ts (a ∷ xs) vs
+put_before : {A : Type 0} {Sep : Token → Type 0} {Reads : List Token → A → List Token → Type 0} (t : Token) {ts us vs : List Token} {a : A} {xs : List A} →
+    Reads ts a (t ∷ us) → Sep t → HeadTail Sep Reads us xs vs → HeadTail Sep Reads ts (a ∷ xs) vs
 put_before t h s (head_tail g k) = head_tail h (a_thing (behind s g) k)
 
 pub head_of : {A : Type 0} {Sep : Token → Type 0} {Reads : List Token → A → List Token → Type 0} {ts vs : List Token} {xs : List A} → Separated Sep Reads ts xs vs → HeadTail Sep Reads ts xs vs

@@ -149,11 +149,19 @@ pred_stands_alone at_start = alone_start []
 pred_stands_alone (after {s} {r} {t} h e) = pred_alone s r t (pred_stands_alone h) e
 
 -- a whole predicate goes on with a type by itself
-goes_on : (stage : PredStage) (types : TypeReader) (o : Option (List TypeNode)) {r : PredReader} {nodes : List TypeNode} (t : Token) → Alone types → type_done types ≡ o → pred_done_at stage o ≡ Some nodes → in_type stage types t ≡ Some r → member (code t) begin_codes ≡ true
+goes_on : (stage : PredStage) (types : TypeReader) (o : Option (List TypeNode)) {r : PredReader} {nodes : List TypeNode} (t : Token) → Alone types →
+    type_done types ≡ o → pred_done_at stage o ≡ Some nodes → in_type stage types t ≡ Some r → member (code t) begin_codes ≡ true
 goes_on (Class p n c) types None t l d e f = cc
-goes_on (Class p n c) types (Some ns) {r} t l d e f = begins_alone (nodes_of types) t (in_pred_some (Class p n (c + 1)) (type_move (alone_from (nodes_of types)) t) (done_if (is_alone_whole types) (after_type (Class p n c) (nodes_of types) t (sort_of t)) (in_pred (Class p n c) (type_move types t)) (alone_is_whole types l (ap is_some d)) f))
+goes_on (Class p n c) types (Some ns) {r} t l d e f =
+    let whole = alone_is_whole types l (ap is_some d) in
+    begins_alone (nodes_of types) t
+    (in_pred_some (Class p n (c + 1)) (type_move (alone_from (nodes_of types)) t)
+    (done_if (is_alone_whole types) (after_type (Class p n c) (nodes_of types) t (sort_of t)) (in_pred (Class p n c) (type_move types t)) whole f))
 goes_on (Last fact) types None t l d e f = cc
-goes_on (Last fact) types (Some ns) t l d e f = absurd (some_none (done_if (is_alone_whole types) (after_type (Last fact) (nodes_of types) t (sort_of t)) (in_pred (Last fact) (type_move types t)) (alone_is_whole types l (ap is_some d)) f) refl)
+goes_on (Last fact) types (Some ns) t l d e f =
+    let whole = alone_is_whole types l (ap is_some d) in
+    let after_it = after_type (Last fact) (nodes_of types) t (sort_of t) in
+    absurd (some_none (done_if (is_alone_whole types) after_it (in_pred (Last fact) (type_move types t)) whole f) refl)
 goes_on Begin types o t l d e f = cc
 goes_on (ClassOrType p n) types o t l d e f = cc
 goes_on (PowerOrType p) types o t l d e f = cc

@@ -13,7 +13,8 @@ use Rattle.hb_tokens.specs.declared.word.Word.TheVariants as word
 use Rattle.hb_tree.specs.declared.types.NameAt.{NameAt}
 use Rattle.hb_grammar.specs.Tokens.{IsVar, IsCon, IsOp, IsWord, IsNumber, IsBits, IsMark}
 use Rattle.hb_read_declarations.specs.Codes.{word_code, kind_code, code, or, member}
-use Rattle.hb_read_declarations.specs.Worths.{at_place, kind_var, var, kind_con, con, kind_op, op, kind_this_con, this_con, kind_this_op, this_op, kind_word, this_word, kind_mark, mark, kind_number, number, kind_digit, digit, Width, kind_bits, bits, kind_end, end_of}
+use Rattle.hb_read_declarations.specs.Worths.{at_place, kind_var, var, kind_con, con, kind_op, op, kind_this_con, this_con, kind_this_op, this_op, kind_word}
+use Rattle.hb_read_declarations.specs.Worths.{this_word, kind_mark, mark, kind_number, number, kind_digit, digit, Width, kind_bits, bits, kind_end, end_of}
 use Rattle.hb_read_declarations.proofs.Known.{some_is}
 
 pub name_is : (a b : Name) → a.0 ≡ b.0 → a ≡ b
@@ -159,7 +160,13 @@ word_at (w ∷ ws) zero = w
 word_at (w ∷ ws) (suc n) = word_at ws n
 
 abbrev words : List Word
-words = word.Area ∷ word.Area ∷ word.Area ∷ word.Area ∷ word.Area ∷ word.Area ∷ word.Area ∷ word.Area ∷ word.Area ∷ word.Area ∷ word.Area ∷ word.Bitdata ∷ word.Struct ∷ word.Port ∷ word.Class ∷ word.Instance ∷ word.Data ∷ word.Infix ∷ word.Infixl ∷ word.Infixr ∷ word.Where ∷ word.Let ∷ word.In ∷ word.Do ∷ word.Of ∷ word.Case ∷ word.If ∷ word.Then ∷ word.Else ∷ word.Each ∷ word.Fields ∷ word.Aligned ∷ word.At ∷ word.Module ∷ word.Import ∷ word.Export ∷ word.Deriving ∷ word.Default ∷ word.TypeWord ∷ word.Newtype ∷ word.Foreign ∷ word.Opaque ∷ word.Fails ∷ word.DoubleColon ∷ word.Equals ∷ word.Backslash ∷ word.Bar ∷ word.LeftArrow ∷ word.RightArrow ∷ word.DoubleArrow ∷ []
+words =
+    word.Area ∷ word.Area ∷ word.Area ∷ word.Area ∷ word.Area ∷ word.Area ∷ word.Area ∷ word.Area ∷ word.Area ∷ word.Area ∷
+    word.Area ∷ word.Bitdata ∷ word.Struct ∷ word.Port ∷ word.Class ∷ word.Instance ∷ word.Data ∷ word.Infix ∷ word.Infixl ∷
+    word.Infixr ∷ word.Where ∷ word.Let ∷ word.In ∷ word.Do ∷ word.Of ∷ word.Case ∷ word.If ∷ word.Then ∷ word.Else ∷ word.Each ∷
+    word.Fields ∷ word.Aligned ∷ word.At ∷ word.Module ∷ word.Import ∷ word.Export ∷ word.Deriving ∷ word.Default ∷
+    word.TypeWord ∷ word.Newtype ∷ word.Foreign ∷ word.Opaque ∷ word.Fails ∷ word.DoubleColon ∷ word.Equals ∷ word.Backslash ∷
+    word.Bar ∷ word.LeftArrow ∷ word.RightArrow ∷ word.DoubleArrow ∷ []
 
 word_back : (w : Word) → word_at words (word_code w) ≡ w
 word_back word.Area = refl

@@ -1,5 +1,5 @@
 -- The kinds of tokens as numbers, so that sets of them can be compared by computing.
-use Rattle.std.specs.Prelude.{if◌then◌else◌, ℕ, ◌+◌, ◌==◌, Bool, true, false, List, [], ◌∷◌}
+use Rattle.std.specs.Prelude.{ℕ, ◌+◌, ◌==◌, Bool, true, false, List, [], ◌∷◌, if◌then◌else◌}
 use Rattle.hb_base.specs.declared.name.Name.{Name}
 use Rattle.hb_base.specs.Fixed.{wildcard}
 use Rattle.hb_tokens.specs.declared.token.Token.{Token}

@@ -1,5 +1,5 @@
 -- What a token is worth to a declaration.
-use Rattle.std.specs.Prelude.{if◌then◌else◌, ℕ, ◌==◌, nat_le, Option, Some, None}
+use Rattle.std.specs.Prelude.{ℕ, ◌==◌, nat_le, if◌then◌else◌, Option, Some, None}
 use Rattle.hb_base.specs.declared.name.Name.{Name}
 use Rattle.hb_base.specs.declared.place.Place.{Place}
 use Rattle.hb_base.specs.Fixed.{wildcard}
