@@ -23,7 +23,9 @@ use Rattle.hb_read_program.specs.declared.side.Heading.TheVariants as heading
 use Rattle.hb_read_program.specs.Sets.{type_codes, equation_codes, going_codes, line_follow, class_follow, leaf_follow, head_codes, begin_codes, first, follow, is_nothing, all_nothing, also_codes, item_firsts, within, only_if, may_stand, row_keeps, heads_keep, leaf_keeps, apart_heads}
 use Rattle.hb_read_program.proofs.Checked.{table_keeps}
 use Rattle.hb_read_program.proofs.TableLaws.{leaf_known, found_code, found_keeps, both_left, both_right, within_is, only_is, nothing_is}
-use Rattle.hb_read_program.proofs.Fits.{an_eq, Side_live, gone_side, live_side, Fit, fit_waits, fit_reads, fit_line, fit_class, frame_first, frame_follow, code_in, start_code, side_code, sig_code, SigTurn, sig_at, sig_of, side_lives, heading_lives, LineTurn, line_sig, line_still, line_of, class_items, ClassTurn, class_arrow, class_still, class_of, heading_code, context_code}
+use Rattle.hb_read_program.proofs.Fits.{an_eq, Side_live, gone_side, live_side, Fit, fit_waits, fit_reads, fit_line, fit_class, frame_first, frame_follow}
+use Rattle.hb_read_program.proofs.Fits.{code_in, start_code, side_code, sig_code, SigTurn, sig_at, sig_of, side_lives, heading_lives, LineTurn, line_sig}
+use Rattle.hb_read_program.proofs.Fits.{line_still, line_of, class_items, ClassTurn, class_arrow, class_still, class_of, heading_code, context_code}
 
 -- which tokens a symbol may begin with
 
