@@ -12,13 +12,14 @@ pub record Closed {F N : Type 0} (table : Table F N) (Means : F → List Token �
   pub null : (f : F) (ns : List N) (ts : List Token) → table.null f ≡ Some ns → Means f ts ns ts
   pub turn : (f : F) (t : Token) (n : Turn F N) (ms : List N) (ts us : List Token) → table.turn f t ≡ Some n → All Means n.frames ts ms us → Means f (t ∷ ts) (n.nodes ++ ms) us
 
-data Split {F N : Type 0} (Means : F → List Token → List N → List Token → Type 0) (gs fs : List F) (ts : List Token) (ms : List N) (vs : List Token) : Type 0 where
+-- frames in two parts
+pub data Split {F N : Type 0} (Means : F → List Token → List N → List Token → Type 0) (gs fs : List F) (ts : List Token) (ms : List N) (vs : List Token) : Type 0 where
   split : (us : List Token) (ls ns : List N) → All Means gs ts ls us → All Means fs us ns vs → ls ++ ns ≡ ms → Split Means gs fs ts ms vs
 
 put_before : {F N : Type 0} {Means : F → List Token → List N → List Token → Type 0} {g : F} {gs fs : List F} (ks : List N) {ms : List N} {ts us vs : List Token} → Means g ts ks us → Split Means gs fs us ms vs → Split Means (g ∷ gs) fs ts (ks ++ ms) vs
 put_before ks h (split us ls ns a b e) = split us (ks ++ ls) ns (then h a) b (append_assoc ks ls ns ∙ ap (λ ms. ks ++ ms) e)
 
-split_all : {F N : Type 0} {Means : F → List Token → List N → List Token → Type 0} (gs : List F) {fs : List F} {ms : List N} {ts vs : List Token} → All Means (gs ++ fs) ts ms vs → Split Means gs fs ts ms vs
+pub split_all : {F N : Type 0} {Means : F → List Token → List N → List Token → Type 0} (gs : List F) {fs : List F} {ms : List N} {ts vs : List Token} → All Means (gs ++ fs) ts ms vs → Split Means gs fs ts ms vs
 split_all [] {ms} {ts} h = split ts [] ms nothing h refl
 split_all (g ∷ gs) (then {ms = ks} h k) = put_before ks h (split_all gs k)
 

@@ -27,7 +27,8 @@ use Rattle.hb_read_expressions.specs.declared.state.Core.{Core}
 use Rattle.hb_read_expressions.specs.Moves.{moved, move_state, move_alone, done, equation_start}
 use Rattle.hb_read_expressions.specs.States.{at, end_post, begun_of}
 use Rattle.hb_read_expressions.specs.Outside.{move_core, after_post}
-use Rattle.hb_read_expressions.specs.Inside.{move_row_left, move_bind_start, move_row_var, move_row_open, move_alt_start, with_pats, in_pattern, if_done, next_param, end_params, row_infix, alt_arrow, stmt_arrow}
+use Rattle.hb_read_expressions.specs.Inside.{move_row_left, move_bind_start, move_row_var, move_row_open, move_alt_start, with_pats, in_pattern, if_done}
+use Rattle.hb_read_expressions.specs.Inside.{next_param, end_params, row_infix, alt_arrow, stmt_arrow}
 use Rattle.hb_read_expressions.specs.Statements.{both, move_both, move_stmt_start}
 use Rattle.hb_read_expressions.specs.Ends.{row_next, close_top, end_operand}
 use Rattle.std.specs.Prelude.{◌==◌}
@@ -91,27 +92,45 @@ pattern_none core o q d e = ap (λ o. in_pattern core o q) d ∙ e
 
 next_other : {k : TokenKind} (purpose : Purpose) (n : ℕ) (fs : List Frame) (nodes : List ExprNode) (pats : PatReader) (p : Place) → IsOther k → next_param purpose n fs nodes pats (token_of p k) ≡ None
 next_other (ForRight name place before) n fs nodes pats p o = ap (λ s. with_pats pats (end_params (ForRight name place before) n fs nodes s)) o.outside
-next_other {k} (ForLambda begun place) n fs nodes pats p o = pattern_none (at fs (now.Param (ForLambda begun place) n) nodes) (pat_move apat_reader.start (token_of p k)) _ (pat_other apat_reader.start p o) (ap (λ s. with_pats pats (end_params (ForLambda begun place) n fs nodes s)) o.outside)
-next_other {k} (ForRow name place before) n fs nodes pats p o = pattern_none (at fs (now.Param (ForRow name place before) n) nodes) (pat_move apat_reader.start (token_of p k)) _ (pat_other apat_reader.start p o) (ap (λ s. with_pats pats (end_params (ForRow name place before) n fs nodes s)) o.outside)
+next_other {k} (ForLambda begun place) n fs nodes pats p o =
+    pattern_none (at fs (now.Param (ForLambda begun place) n) nodes) (pat_move apat_reader.start (token_of p k)) _ (pat_other apat_reader.start p o)
+    (ap (λ s. with_pats pats (end_params (ForLambda begun place) n fs nodes s)) o.outside)
+next_other {k} (ForRow name place before) n fs nodes pats p o =
+    pattern_none (at fs (now.Param (ForRow name place before) n) nodes) (pat_move apat_reader.start (token_of p k)) _
+    (pat_other apat_reader.start p o) (ap (λ s. with_pats pats (end_params (ForRow name place before) n fs nodes s)) o.outside)
 
-left_other : {k : TokenKind} (before : ℕ) (place : Place) (fs : List Frame) (nodes : List ExprNode) (pats : PatReader) (p : Place) → IsOther k → move_row_left before place fs nodes pats (token_of p k) ≡ None
-left_other {k} before place fs nodes pats p o = pattern_none (at fs (now.RowLeft before place) nodes) (pat_move pats (token_of p k)) _ (pat_other pats p o) (done_none (apat_reader.done pats) _ (λ ns. ap (λ s. with_pats pats (row_infix before place fs (nodes ++ wrapped ns) s)) o.outside))
+left_other : {k : TokenKind} (before : ℕ) (place : Place) (fs : List Frame) (nodes : List ExprNode) (pats : PatReader) (p : Place) → IsOther k →
+    move_row_left before place fs nodes pats (token_of p k) ≡ None
+left_other {k} before place fs nodes pats p o =
+    pattern_none (at fs (now.RowLeft before place) nodes) (pat_move pats (token_of p k)) _ (pat_other pats p o)
+    (done_none (apat_reader.done pats) _ (λ ns. ap (λ s. with_pats pats (row_infix before place fs (nodes ++ wrapped ns) s)) o.outside))
 
 start_none : {k : TokenKind} (core : Core) (r : PatReader) (p : Place) → IsOther k → in_pattern core (pat_move r (token_of p k)) None ≡ None
 start_none {k} core r p o = pattern_none core (pat_move r (token_of p k)) None (pat_other r p o) refl
 
 alone_other : {k : TokenKind} (n : Now) (fs : List Frame) (nodes : List ExprNode) (pats : PatReader) (p : Place) → IsOther k → move_alone n fs nodes pats (token_of p k) ≡ None
 alone_other (now.ParamStart purpose n) fs nodes pats p o = start_none (at fs (now.Param purpose n) nodes) apat_reader.start p o
-alone_other {k} (now.Param purpose n) fs nodes pats p o = pattern_none (at fs (now.Param purpose n) nodes) (pat_move pats (token_of p k)) _ (pat_other pats p o) (done_none (apat_reader.done pats) _ (λ ns. next_other purpose (n + 1) fs (nodes ++ wrapped ns) pats p o))
+alone_other {k} (now.Param purpose n) fs nodes pats p o =
+    pattern_none (at fs (now.Param purpose n) nodes) (pat_move pats (token_of p k)) _ (pat_other pats p o)
+    (done_none (apat_reader.done pats) _ (λ ns. next_other purpose (n + 1) fs (nodes ++ wrapped ns) pats p o))
 alone_other {k} (now.BindStart before) fs nodes pats p o = ap (move_bind_start before fs nodes pats (token_of p k)) o.outside ∙ start_none (at fs (now.RowLeft before p) nodes) apat_reader.start p o
-alone_other {k} (now.RowVar before place name) fs nodes pats p o = ap (move_row_var before place name fs nodes pats (token_of p k)) o.outside ∙ next_other (ForRow name place before) 0 fs nodes pats p o
+alone_other {k} (now.RowVar before place name) fs nodes pats p o =
+    ap (move_row_var before place name fs nodes pats (token_of p k)) o.outside ∙ next_other (ForRow name place before) 0 fs nodes pats p o
 alone_other {k} (now.RowOpen before place) fs nodes pats p o = ap (move_row_open before place fs nodes pats (token_of p k)) o.outside ∙ left_other before place fs nodes pats p o
 alone_other (now.RowName before place name) fs nodes pats p o = next_other (ForRow name place before) 0 fs nodes pats p o
 alone_other (now.RowLeft before place) fs nodes pats p o = left_other before place fs nodes pats p o
-alone_other {k} (now.AltStart begun place before) fs nodes pats p o = ap (move_alt_start begun place before fs nodes pats (token_of p k)) o.outside ∙ start_none (at fs (now.AltPat begun place before) nodes) pat_reader.start p o
-alone_other {k} (now.AltPat begun place before) fs nodes pats p o = pattern_none (at fs (now.AltPat begun place before) nodes) (pat_move pats (token_of p k)) _ (pat_other pats p o) (done_none (pat_reader.done pats) _ (λ ns. ap (λ s. with_pats pats (alt_arrow begun place before fs (nodes ++ wrapped ns) s)) o.outside))
-alone_other {k} (now.StmtStart begun place before may_end) fs nodes pats p o = ap (move_stmt_start begun place before may_end fs nodes pats (token_of p k)) o.outside ∙ ap (both (at (frame.Statement begun place before (length nodes) ∷ fs) now.Want nodes) None pat_reader.start) (pat_other pat_reader.start p o)
-alone_other {k} (now.StmtPat begun place before) fs nodes pats p o = pattern_none (at fs (now.StmtPat begun place before) nodes) (pat_move pats (token_of p k)) _ (pat_other pats p o) (done_none (pat_reader.done pats) _ (λ ns. ap (λ s. with_pats pats (stmt_arrow begun place before fs (nodes ++ wrapped ns) s)) o.outside))
+alone_other {k} (now.AltStart begun place before) fs nodes pats p o =
+    ap (move_alt_start begun place before fs nodes pats (token_of p k)) o.outside
+    ∙ start_none (at fs (now.AltPat begun place before) nodes) pat_reader.start p o
+alone_other {k} (now.AltPat begun place before) fs nodes pats p o =
+    pattern_none (at fs (now.AltPat begun place before) nodes) (pat_move pats (token_of p k)) _ (pat_other pats p o)
+    (done_none (pat_reader.done pats) _ (λ ns. ap (λ s. with_pats pats (alt_arrow begun place before fs (nodes ++ wrapped ns) s)) o.outside))
+alone_other {k} (now.StmtStart begun place before may_end) fs nodes pats p o =
+    ap (move_stmt_start begun place before may_end fs nodes pats (token_of p k)) o.outside
+    ∙ ap (both (at (frame.Statement begun place before (length nodes) ∷ fs) now.Want nodes) None pat_reader.start) (pat_other pat_reader.start p o)
+alone_other {k} (now.StmtPat begun place before) fs nodes pats p o =
+    pattern_none (at fs (now.StmtPat begun place before) nodes) (pat_move pats (token_of p k)) _ (pat_other pats p o)
+    (done_none (pat_reader.done pats) _ (λ ns. ap (λ s. with_pats pats (stmt_arrow begun place before fs (nodes ++ wrapped ns) s)) o.outside))
 alone_other n fs nodes pats p o = ap (λ s. with_pats pats (move_core n fs nodes p s)) o.outside ∙ ap (with_pats pats) (core_other n fs nodes p)
 
 both_other : {k : TokenKind} (core : Core) (pats : PatReader) (p : Place) → IsOther k → move_both core pats (token_of p k) sort.Other ≡ None
@@ -169,7 +188,8 @@ pat_mark p byte e =
 abbrev begin_row : PatReader → Token → Sort → Option State
 begin_row pats t x = move_bind_start 0 [] [] pats t x
 
-row_if : {P : Type 0} (pats : PatReader) (t : Token) (b : Bool) (x y : Sort) → is_some (begin_row pats t (cond b x y)) ≡ true → (b ≡ true → is_some (begin_row pats t x) ≡ true → P) → (b ≡ false → is_some (begin_row pats t y) ≡ true → P) → P
+row_if : {P : Type 0} (pats : PatReader) (t : Token) (b : Bool) (x y : Sort) → is_some (begin_row pats t (cond b x y)) ≡ true →
+    (b ≡ true → is_some (begin_row pats t x) ≡ true → P) → (b ≡ false → is_some (begin_row pats t y) ≡ true → P) → P
 row_if pats t true x y e f g = f refl e
 row_if pats t false x y e f g = g refl e
 

@@ -16,10 +16,10 @@ use Rattle.hb_read_expressions.specs.Moves.{equation_reader}
 use Rattle.hb_read_declarations.specs.Codes.{member, not}
 use Rattle.hb_read_declarations.specs.Nodes.{valued, bind_of}
 use Rattle.hb_read_declarations.specs.Readers.{an_equation}
-use Rattle.hb_read_declarations.proofs.Known.{Known}
-use Rattle.hb_read_declarations.proofs.Fine.{Fine, fine_by}
+use Rattle.hb_read_declarations.proofs.Known.{Known, known_by}
+use Rattle.hb_read_declarations.proofs.MappedLaws.{worth_known}
 use Rattle.hb_read_declarations.specs.Exactly.{Made}
-use Rattle.hb_read_declarations.proofs.Lists.{Block, no_thing, empty_thing, last_in, more_in, fine_again}
+use Rattle.hb_read_declarations.proofs.Lists.{Block, no_thing, empty_thing, last_in, more_in}
 
 -- what an equation begins with: names, `_`, numbers, bits and `(`
 abbrev pub equation_codes : List ℕ
@@ -42,14 +42,19 @@ EquationKnown pats = Known (equation_reader pats) EquationOf false equation_code
 
 -- a definition of one row, at its first token
 pub data EquationRead : List Token → Bind → List Token → Type 0 where
-  equation_read : {ts us : List Token} {name : Name} {row : Equation} → ReadsEquation ts name (equations (row ∷ [])) us → EquationRead ts (record { name = name; place = first_place ts; rows = row ∷ [] }) us
+  equation_read : {ts us : List Token} {name : Name} {row : Equation} → ReadsEquation ts name (equations (row ∷ [])) us →
+      EquationRead ts (record { name = name; place = first_place ts; rows = row ∷ [] }) us
 
 abbrev bind_nodes : Bind → List ExprNode
 bind_nodes b = put_rows b.name b.place (equations b.rows) []
 
 row_made : {ts us : List Token} {v : List ExprNode} (name : Name) {row : Equations} → v ≡ put_rows name (first_place ts) row [] → ReadsEquation ts name row us → Made EquationRead bind_nodes ts v us
-row_made {ts} name e (grammar.plain {us} {ps} {e = x} d f h) = let row : Equation = record { pats = ps; first = first_place us; body = x; local = NoBinds } in record { thing = record { name = name; place = first_place ts; rows = row ∷ [] }; read = equation_read (grammar.plain d f h); is = e }
-row_made {ts} name e (grammar.with_where {us} {ps} {e = x} {bs} d f h g k) = let row : Equation = record { pats = ps; first = first_place us; body = x; local = bs } in record { thing = record { name = name; place = first_place ts; rows = row ∷ [] }; read = equation_read (grammar.with_where d f h g k); is = e }
+row_made {ts} name e (grammar.plain {us} {ps} {e = x} d f h) =
+    let row : Equation = record { pats = ps; first = first_place us; body = x; local = NoBinds } in
+    record { thing = record { name = name; place = first_place ts; rows = row ∷ [] }; read = equation_read (grammar.plain d f h); is = e }
+row_made {ts} name e (grammar.with_where {us} {ps} {e = x} {bs} d f h g k) =
+    let row : Equation = record { pats = ps; first = first_place us; body = x; local = bs } in
+    record { thing = record { name = name; place = first_place ts; rows = row ∷ [] }; read = equation_read (grammar.with_where d f h g k); is = e }
 
 pub equation_made : {ts us : List Token} {v : List ExprNode} → EquationOf ts v us → Made EquationRead bind_nodes ts v us
 equation_made h = row_made h.name h.is h.reads
@@ -60,8 +65,10 @@ made_of e (equation_read {name} {row} h) = record { name = name; row = equations
 pub made_equation : {ts us : List Token} {v : List ExprNode} → Made EquationRead bind_nodes ts v us → EquationOf ts v us
 made_equation m = made_of m.is m.read
 
-abbrev pub equation_fine : (pats : PatReader) → EquationKnown pats → Fine (an_equation pats) (Made EquationRead bind_of)
-equation_fine pats k = fine_again bind_nodes valued (fine_by (λ ts v us h. equation_made h) (λ ts v us h. made_equation h) (record { null = false; first = equation_codes; goes = λ c. member c going_codes; uses = inside; known = k }))
+pub an_equation_known : (pats : PatReader) → EquationKnown pats →
+    Known (an_equation pats) (Made EquationRead bind_of) false equation_codes (λ c. member c going_codes) inside
+an_equation_known pats k =
+    worth_known bind_nodes valued (known_by (λ ts v us h. equation_made h) (λ ts v us h. made_equation h) k)
 
 -- blocks of equations
 

@@ -36,12 +36,12 @@ use Rattle.hb_read_types.proofs.ContextExact.{context_exact}
 use Rattle.hb_read_types.proofs.QualifiedExact.{type_other, pred_other, context_other, kind_is, qualified_exact}
 use Rattle.hb_read_declarations.specs.Codes.{name_code, kind_code, code, member}
 use Rattle.hb_read_declarations.specs.Nodes.{typed, type_of, pred_of}
-use Rattle.hb_read_declarations.specs.Readers.{a_type, an_atype, a_pred}
-use Rattle.hb_read_declarations.proofs.Known.{Known, none, some_none, equal_is, member_left}
+use Rattle.hb_read_declarations.specs.Combined.{worth_of}
+use Rattle.hb_read_declarations.specs.Readers.{Out, a_type, an_atype, a_pred, a_qualified}
+use Rattle.hb_read_declarations.proofs.Known.{Known, none, some_none, equal_is, member_left, known_by}
 use Rattle.hb_read_declarations.proofs.WorthLaws.{name_is}
-use Rattle.hb_read_declarations.proofs.Fine.{Fine, fine_by}
+use Rattle.hb_read_declarations.proofs.MappedLaws.{worth_known}
 use Rattle.hb_read_declarations.specs.Exactly.{Made}
-use Rattle.hb_read_declarations.proofs.Lists.{fine_again}
 
 -- the tokens of types: names, numbers, operators, `(`, `)`, `,`, `=` and `->`
 abbrev pub type_codes : List ℕ
@@ -57,6 +57,9 @@ in_types c = member c type_codes
 -- with `=>`
 abbrev pub qualified_codes : List ℕ
 qualified_codes = 0 ∷ 2 ∷ 3 ∷ 4 ∷ 100 ∷ 101 ∷ 104 ∷ 44 ∷ 48 ∷ 49 ∷ []
+
+abbrev pub in_qualified : ℕ → Bool
+in_qualified c = member c qualified_codes
 
 zero_if : (b : Bool) (c : ℕ) → b ≡ false → c ≡ cond b 1 0 → c ≡ 0
 zero_if true c e d = cc
@@ -146,11 +149,19 @@ pred_stands_alone at_start = alone_start []
 pred_stands_alone (after {s} {r} {t} h e) = pred_alone s r t (pred_stands_alone h) e
 
 -- a whole predicate goes on with a type by itself
-goes_on : (stage : PredStage) (types : TypeReader) (o : Option (List TypeNode)) {r : PredReader} {nodes : List TypeNode} (t : Token) → Alone types → type_done types ≡ o → pred_done_at stage o ≡ Some nodes → in_type stage types t ≡ Some r → member (code t) begin_codes ≡ true
+goes_on : (stage : PredStage) (types : TypeReader) (o : Option (List TypeNode)) {r : PredReader} {nodes : List TypeNode} (t : Token) → Alone types →
+    type_done types ≡ o → pred_done_at stage o ≡ Some nodes → in_type stage types t ≡ Some r → member (code t) begin_codes ≡ true
 goes_on (Class p n c) types None t l d e f = cc
-goes_on (Class p n c) types (Some ns) {r} t l d e f = begins_alone (nodes_of types) t (in_pred_some (Class p n (c + 1)) (type_move (alone_from (nodes_of types)) t) (done_if (is_alone_whole types) (after_type (Class p n c) (nodes_of types) t (sort_of t)) (in_pred (Class p n c) (type_move types t)) (alone_is_whole types l (ap is_some d)) f))
+goes_on (Class p n c) types (Some ns) {r} t l d e f =
+    let whole = alone_is_whole types l (ap is_some d) in
+    begins_alone (nodes_of types) t
+    (in_pred_some (Class p n (c + 1)) (type_move (alone_from (nodes_of types)) t)
+    (done_if (is_alone_whole types) (after_type (Class p n c) (nodes_of types) t (sort_of t)) (in_pred (Class p n c) (type_move types t)) whole f))
 goes_on (Last fact) types None t l d e f = cc
-goes_on (Last fact) types (Some ns) t l d e f = absurd (some_none (done_if (is_alone_whole types) (after_type (Last fact) (nodes_of types) t (sort_of t)) (in_pred (Last fact) (type_move types t)) (alone_is_whole types l (ap is_some d)) f) refl)
+goes_on (Last fact) types (Some ns) t l d e f =
+    let whole = alone_is_whole types l (ap is_some d) in
+    let after_it = after_type (Last fact) (nodes_of types) t (sort_of t) in
+    absurd (some_none (done_if (is_alone_whole types) after_it (in_pred (Last fact) (type_move types t)) whole f) refl)
 goes_on Begin types o t l d e f = cc
 goes_on (ClassOrType p n) types o t l d e f = cc
 goes_on (PowerOrType p) types o t l d e f = cc
@@ -235,7 +246,7 @@ context_known = record {
   nothing = null_of (context_done context_reader.start) context_starts;
 }
 
-pub qualified_known : Known qualified_reader QualifiedNodesRead false qualified_codes (λ c. member c qualified_codes) (λ c. member c qualified_codes)
+pub qualified_known : Known qualified_reader QualifiedNodesRead false qualified_codes in_qualified in_qualified
 qualified_known = record {
   exact = qualified_exact;
   begins = λ {r} {t} e. qualified_takes qualified_reader.start r t e;
@@ -287,26 +298,26 @@ qualified_made h = record { thing = record { context = h.context; body = h.tree 
 pub made_qualified : {ts us : List Token} {v : List TypeNode} → Made QualifiedRead qualified_nodes ts v us → QualifiedNodesRead ts v us
 made_qualified h = record { context = h.thing.context; tree = h.thing.body; read = h.read; nodes_of = h.is }
 
-abbrev pub type_bare_fine : Fine type_reader (Made ReadsType type_nodes)
-type_bare_fine = fine_by (λ ts v us h. type_made h) (λ ts v us h. made_type h) (record { null = false; first = type_codes; goes = in_types; uses = in_types; known = type_known })
+-- with the nodes of declarations
 
-abbrev pub atype_bare_fine : Fine atype_reader (Made ReadsAtype type_nodes)
-atype_bare_fine = fine_by (λ ts v us h. atype_made h) (λ ts v us h. made_atype h) (record { null = false; first = type_codes; goes = none; uses = in_types; known = atype_known })
+pub a_type_known : Known a_type (Made ReadsType type_of) false type_codes in_types in_types
+a_type_known = worth_known type_nodes typed (known_by (λ ts v us h. type_made h) (λ ts v us h. made_type h) type_known)
 
-abbrev pub pred_bare_fine : Fine pred_reader (Made ReadsPred pred_nodes)
-pred_bare_fine = fine_by (λ ts v us h. pred_made h) (λ ts v us h. made_pred h) (record { null = false; first = type_codes; goes = λ c. member c begin_codes; uses = in_types; known = pred_known })
+pub an_atype_known : Known an_atype (Made ReadsAtype type_of) false type_codes none in_types
+an_atype_known = worth_known type_nodes typed (known_by (λ ts v us h. atype_made h) (λ ts v us h. made_atype h) atype_known)
 
-abbrev pub context_bare_fine : Fine context_reader (Made ReadsContext context_nodes)
-context_bare_fine = fine_by (λ ts v us h. context_made h) (λ ts v us h. made_context h) (record { null = false; first = type_codes; goes = in_types; uses = in_types; known = context_known })
+pub a_pred_known : Known a_pred (Made ReadsPred pred_of) false type_codes (λ c. member c begin_codes) in_types
+a_pred_known = worth_known pred_nodes typed (known_by (λ ts v us h. pred_made h) (λ ts v us h. made_pred h) pred_known)
 
-abbrev pub qualified_bare_fine : Fine qualified_reader (Made QualifiedRead qualified_nodes)
-qualified_bare_fine = fine_by (λ ts v us h. qualified_made h) (λ ts v us h. made_qualified h) (record { null = false; first = qualified_codes; goes = λ c. member c qualified_codes; uses = λ c. member c qualified_codes; known = qualified_known })
+abbrev pub context_of : List PredExpr → Out
+context_of ps = typed (context_nodes ps)
 
-abbrev pub type_fine : Fine a_type (Made ReadsType type_of)
-type_fine = fine_again type_nodes typed type_bare_fine
+pub a_context_known : Known (worth_of typed context_reader) (Made ReadsContext context_of) false type_codes in_types in_types
+a_context_known = worth_known context_nodes typed (known_by (λ ts v us h. context_made h) (λ ts v us h. made_context h) context_known)
 
-abbrev pub atype_fine : Fine an_atype (Made ReadsAtype type_of)
-atype_fine = fine_again type_nodes typed atype_bare_fine
+abbrev pub qualified_of : Qualified → Out
+qualified_of q = typed (qualified_nodes q)
 
-abbrev pub pred_fine : Fine a_pred (Made ReadsPred pred_of)
-pred_fine = fine_again pred_nodes typed pred_bare_fine
+pub a_qualified_known : Known a_qualified (Made QualifiedRead qualified_of) false qualified_codes in_qualified in_qualified
+a_qualified_known =
+    worth_known qualified_nodes typed (known_by (λ ts v us h. qualified_made h) (λ ts v us h. made_qualified h) qualified_known)

@@ -4,21 +4,17 @@ use Rattle.std.specs.Prelude.{◌==◌, nat_le}
 use Rattle.std.proofs.lemmas.Bool.Decides.{nat_tests}
 use Rattle.hb_base.specs.declared.name.Name.{Name}
 use Rattle.hb_base.specs.declared.place.Place.{Place}
-use Rattle.hb_base.specs.declared.port.Dir.{Dir}
-use Rattle.hb_base.specs.declared.port.Dir.TheVariants.{In, Out}
 use Rattle.hb_base.specs.Fixed.{wildcard}
 use Rattle.hb_tokens.specs.declared.token.Token.{Token}
 use Rattle.hb_tokens.specs.declared.token.TokenKind.{TokenKind}
-use Rattle.hb_tokens.specs.declared.token.TokenKind.TheVariants.{VarId, ConId, Op, Word as AWord, Number, Bits, Mark}
+use Rattle.hb_tokens.specs.declared.token.TokenKind.TheVariants.{VarId, ConId, Op, Word as AWord, Number, Bits, Mark, End}
 use Rattle.hb_tokens.specs.declared.word.Word.{Word}
 use Rattle.hb_tokens.specs.declared.word.Word.TheVariants as word
-use Rattle.hb_tree.specs.declared.declaration.Fix.{Fix}
-use Rattle.hb_tree.specs.declared.declaration.Fix.TheVariants.{Left, Right, Neither}
 use Rattle.hb_tree.specs.declared.types.NameAt.{NameAt}
 use Rattle.hb_grammar.specs.Tokens.{IsVar, IsCon, IsOp, IsWord, IsNumber, IsBits, IsMark}
-use Rattle.hb_grammar.specs.Declarations.{fix_word, dir_name}
 use Rattle.hb_read_declarations.specs.Codes.{word_code, kind_code, code, or, member}
-use Rattle.hb_read_declarations.specs.Worths.{at_place, kind_var, var, kind_con, con, kind_op, op, kind_this_con, this_con, kind_this_op, this_op, kind_word, this_word, kind_mark, mark, kind_number, number, kind_digit, digit, Width, kind_bits, bits, FixAt, fix_at, word_fix, kind_fix, fixing, kind_dir, direction}
+use Rattle.hb_read_declarations.specs.Worths.{at_place, kind_var, var, kind_con, con, kind_op, op, kind_this_con, this_con, kind_this_op, this_op, kind_word}
+use Rattle.hb_read_declarations.specs.Worths.{this_word, kind_mark, mark, kind_number, number, kind_digit, digit, Width, kind_bits, bits, kind_end, end_of}
 use Rattle.hb_read_declarations.proofs.Known.{some_is}
 
 pub name_is : (a b : Name) → a.0 ≡ b.0 → a ≡ b
@@ -144,9 +140,6 @@ this_op_kind n p _ e = cc
 pub this_op_of : {n : Name} {t : Token} {x : Place} → this_op n t ≡ Some x → (IsOp n t) × (x ≡ t.place)
 this_op_of {n} {t} e = this_op_kind n t.place t.kind e
 
-pub this_op_is : {n : Name} (t : Token) → IsOp n t → this_op n t ≡ Some t.place
-this_op_is {n} t e = ap (kind_this_op n t.place) e ∙ if_holds (n.0 == n.0) t.place (same n.0)
-
 pub mark_kind : (m : ℕ) (p : Place) (k : TokenKind) {x : Place} → kind_mark m p k ≡ Some x → (k ≡ Mark m) × (x ≡ p)
 mark_kind m p (Mark byte) {x} e = by_parts (if_some (byte == m) p e)
   where
@@ -167,7 +160,13 @@ word_at (w ∷ ws) zero = w
 word_at (w ∷ ws) (suc n) = word_at ws n
 
 abbrev words : List Word
-words = word.Area ∷ word.Area ∷ word.Area ∷ word.Area ∷ word.Area ∷ word.Area ∷ word.Area ∷ word.Area ∷ word.Area ∷ word.Area ∷ word.Area ∷ word.Bitdata ∷ word.Struct ∷ word.Port ∷ word.Class ∷ word.Instance ∷ word.Data ∷ word.Infix ∷ word.Infixl ∷ word.Infixr ∷ word.Where ∷ word.Let ∷ word.In ∷ word.Do ∷ word.Of ∷ word.Case ∷ word.If ∷ word.Then ∷ word.Else ∷ word.Each ∷ word.Fields ∷ word.Aligned ∷ word.At ∷ word.Module ∷ word.Import ∷ word.Export ∷ word.Deriving ∷ word.Default ∷ word.TypeWord ∷ word.Newtype ∷ word.Foreign ∷ word.Opaque ∷ word.Fails ∷ word.DoubleColon ∷ word.Equals ∷ word.Backslash ∷ word.Bar ∷ word.LeftArrow ∷ word.RightArrow ∷ word.DoubleArrow ∷ []
+words =
+    word.Area ∷ word.Area ∷ word.Area ∷ word.Area ∷ word.Area ∷ word.Area ∷ word.Area ∷ word.Area ∷ word.Area ∷ word.Area ∷
+    word.Area ∷ word.Bitdata ∷ word.Struct ∷ word.Port ∷ word.Class ∷ word.Instance ∷ word.Data ∷ word.Infix ∷ word.Infixl ∷
+    word.Infixr ∷ word.Where ∷ word.Let ∷ word.In ∷ word.Do ∷ word.Of ∷ word.Case ∷ word.If ∷ word.Then ∷ word.Else ∷ word.Each ∷
+    word.Fields ∷ word.Aligned ∷ word.At ∷ word.Module ∷ word.Import ∷ word.Export ∷ word.Deriving ∷ word.Default ∷
+    word.TypeWord ∷ word.Newtype ∷ word.Foreign ∷ word.Opaque ∷ word.Fails ∷ word.DoubleColon ∷ word.Equals ∷ word.Backslash ∷
+    word.Bar ∷ word.LeftArrow ∷ word.RightArrow ∷ word.DoubleArrow ∷ []
 
 word_back : (w : Word) → word_at words (word_code w) ≡ w
 word_back word.Area = refl
@@ -303,61 +302,11 @@ bits_is t e = ap kind_bits e
 pub bits_code : (t : Token) (w : Width) → bits t ≡ Some w → member (code t) (5 ∷ []) ≡ true
 bits_code t w e = ap (λ k. member (kind_code k) (5 ∷ [])) (bits_of t e)
 
--- fixities and directions
+-- the end
 
-fix_is_of : (p : Place) (f : FixAt) (w : Word) (fix : Fix) → w ≡ fix_word fix → Some (fix_at p fix) ≡ Some f → (AWord w ≡ AWord (fix_word f.fix)) × (f ≡ fix_at p f.fix)
-fix_is_of p f w fix e d = (ap AWord (e ∙ ap (λ g. fix_word g.fix) (some_is d)), sym (some_is d) ∙ ap (λ g. fix_at p g.fix) (some_is d))
+end_kind : (p : Place) (k : TokenKind) {x : Place} → kind_end p k ≡ Some x → k ≡ End
+end_kind p End e = refl
+end_kind p _ e = cc
 
-fix_word_of : (p : Place) (w : Word) {f : FixAt} → word_fix p w ≡ Some f → (AWord w ≡ AWord (fix_word f.fix)) × (f ≡ fix_at p f.fix)
-fix_word_of p word.Infixl {f} e = fix_is_of p f word.Infixl Left refl e
-fix_word_of p word.Infixr {f} e = fix_is_of p f word.Infixr Right refl e
-fix_word_of p word.Infix {f} e = fix_is_of p f word.Infix Neither refl e
-fix_word_of p _ e = cc
-
-fix_kind : (p : Place) (k : TokenKind) {f : FixAt} → kind_fix p k ≡ Some f → (k ≡ AWord (fix_word f.fix)) × (f ≡ fix_at p f.fix)
-fix_kind p (AWord w) e = fix_word_of p w e
-fix_kind p _ e = cc
-
-pub fix_of : {t : Token} {f : FixAt} → fixing t ≡ Some f → (IsWord (fix_word f.fix) t) × (f ≡ fix_at t.place f.fix)
-fix_of {t} e = fix_kind t.place t.kind e
-
-fixes : (p : Place) (fix : Fix) → word_fix p (fix_word fix) ≡ Some (fix_at p fix)
-fixes p Left = refl
-fixes p Right = refl
-fixes p Neither = refl
-
-pub fix_is : {fix : Fix} (t : Token) → IsWord (fix_word fix) t → fixing t ≡ Some (fix_at t.place fix)
-fix_is {fix} t e = ap (kind_fix t.place) e ∙ fixes t.place fix
-
-fix_codes : (fix : Fix) → member (word_code (fix_word fix)) (17 ∷ 18 ∷ 19 ∷ []) ≡ true
-fix_codes Left = refl
-fix_codes Right = refl
-fix_codes Neither = refl
-
-pub fix_code : (t : Token) (f : FixAt) → fixing t ≡ Some f → member (code t) (17 ∷ 18 ∷ 19 ∷ []) ≡ true
-fix_code t f e = by_kind (fix_of e)
-  where
-    by_kind : (IsWord (fix_word f.fix) t) × (f ≡ fix_at t.place f.fix) → member (code t) (17 ∷ 18 ∷ 19 ∷ []) ≡ true
-    by_kind (d, h) = ap (λ k. member (kind_code k) (17 ∷ 18 ∷ 19 ∷ [])) d ∙ fix_codes f.fix
-
-dir_if : (name : Name) (b c : Bool) {d : Dir} → (name.0 == 1) ≡ b → (name.0 == 2) ≡ c → cond b (Some In) (cond c (Some Out) None) ≡ Some d → ConId name ≡ ConId (dir_name d)
-dir_if name true c e f g = ap ConId (name_is name (dir_name In) (equal name.0 1 e)) ∙ ap (λ d. ConId (dir_name d)) (some_is g)
-dir_if name false true e f g = ap ConId (name_is name (dir_name Out) (equal name.0 2 f)) ∙ ap (λ d. ConId (dir_name d)) (some_is g)
-dir_if name false false e f g = cc
-
-dir_kind : (k : TokenKind) {d : Dir} → kind_dir k ≡ Some d → k ≡ ConId (dir_name d)
-dir_kind (ConId name) e = dir_if name (name.0 == 1) (name.0 == 2) refl refl e
-dir_kind _ e = cc
-
-pub dir_of : (t : Token) {d : Dir} → direction t ≡ Some d → IsCon (dir_name d) t
-dir_of t e = dir_kind t.kind e
-
-dirs : (d : Dir) → kind_dir (ConId (dir_name d)) ≡ Some d
-dirs In = refl
-dirs Out = refl
-
-pub dir_is : {d : Dir} (t : Token) → IsCon (dir_name d) t → direction t ≡ Some d
-dir_is {d} t e = ap kind_dir e ∙ dirs d
-
-pub dir_code : (t : Token) (d : Dir) → direction t ≡ Some d → member (code t) (2 ∷ []) ≡ true
-dir_code t d e = ap (λ k. member (kind_code k) (2 ∷ [])) (dir_of t e)
+pub end_code : (t : Token) (p : Place) → end_of t ≡ Some p → member (code t) (7 ∷ []) ≡ true
+end_code t p e = ap (λ k. member (kind_code k) (7 ∷ [])) (end_kind t.place t.kind e)

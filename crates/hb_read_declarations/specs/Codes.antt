@@ -85,12 +85,3 @@ not false = true
 abbrev pub apart : (ℕ → Bool) → List ℕ → Bool
 apart set [] = true
 apart set (x ∷ xs) = if set x then false else apart set xs
-
--- the second set where something may be left out
-abbrev pub also : Bool → List ℕ → List ℕ
-also true xs = xs
-also false xs = []
-
-abbrev pub also_in : Bool → Bool → Bool
-also_in true b = b
-also_in false b = false

@@ -25,7 +25,11 @@ use Rattle.hb_read_expressions.specs.declared.node.ExprNode.{ExprNode}
 use Rattle.hb_read_expressions.specs.Nodes.{expr_nodes, put_rows}
 use Rattle.hb_read_declarations.specs.declared.node.DeclNode.{DeclNode}
 use Rattle.hb_read_declarations.specs.declared.node.DeclNode.TheVariants as node
-pub use Rattle.hb_read_declarations.specs.declared.parts.Counted.{Counted}
+
+-- so many things, and the nodes of them all
+pub record Counted : Type 0 where
+  pub count : ℕ
+  pub nodes : List DeclNode
 
 abbrev pub counted_as : ℕ → List DeclNode → Counted
 counted_as count nodes = record { count = count; nodes = nodes }
@@ -131,8 +135,12 @@ decl_nodes (decl.Bitdata p name width cons) = (named name ++ (number_of width ++
 decl_nodes (decl.Struct p name bytes parts) = (named name ++ (number_of bytes ++ closed node.StructParts (counted struct_part_of parts))) ++ node.Struct p ∷ []
 decl_nodes (decl.Area p name init a align) = (named name ++ (start_of init ++ (type_of a ++ number_of align))) ++ node.Area p ∷ []
 decl_nodes (decl.Port p name dir a width k) = named name ++ (type_of a ++ node.Port p dir width k ∷ [])
-decl_nodes (decl.Class p ps name params ds sigs) = ((typed (context_nodes ps) ++ (named name ++ names_of params)) ++ (closed node.Depends (counted depend_of ds) ++ closed node.Sigs (counted sig_of sigs))) ++ node.Class p ∷ []
-decl_nodes (decl.Instance p name types ps rows) = (named name ++ (closed node.Types (counted type_of types) ++ (closed context_whole (counted pred_of ps) ++ closed node.Equations (counted bind_of rows)))) ++ node.Instance p ∷ []
+decl_nodes (decl.Class p ps name params ds sigs) =
+    ((typed (context_nodes ps) ++ (named name ++ names_of params))
+    ++ (closed node.Depends (counted depend_of ds) ++ closed node.Sigs (counted sig_of sigs))) ++ node.Class p ∷ []
+decl_nodes (decl.Instance p name types ps rows) =
+    (named name ++ (closed node.Types (counted type_of types)
+    ++ (closed context_whole (counted pred_of ps) ++ closed node.Equations (counted bind_of rows)))) ++ node.Instance p ∷ []
 
 abbrev pub program_nodes : Program → List DeclNode
 program_nodes p = closed node.Program (counted decl_nodes p.decls)

@@ -2,19 +2,13 @@
 use Rattle.std.specs.Prelude.{ℕ, ◌==◌, nat_le, if◌then◌else◌, Option, Some, None}
 use Rattle.hb_base.specs.declared.name.Name.{Name}
 use Rattle.hb_base.specs.declared.place.Place.{Place}
-use Rattle.hb_base.specs.declared.port.Dir.{Dir}
-use Rattle.hb_base.specs.declared.port.Dir.TheVariants.{In, Out}
 use Rattle.hb_base.specs.Fixed.{wildcard}
 use Rattle.hb_tokens.specs.declared.token.Token.{Token}
 use Rattle.hb_tokens.specs.declared.token.TokenKind.{TokenKind}
 use Rattle.hb_tokens.specs.declared.token.TokenKind.TheVariants.{VarId, ConId, Op, Word as AWord, Number, Bits, Mark, End}
 use Rattle.hb_tokens.specs.declared.word.Word.{Word}
-use Rattle.hb_tokens.specs.declared.word.Word.TheVariants as word
-use Rattle.hb_tree.specs.declared.declaration.Fix.{Fix}
-use Rattle.hb_tree.specs.declared.declaration.Fix.TheVariants.{Left, Right, Neither}
 use Rattle.hb_tree.specs.declared.types.NameAt.{NameAt}
-pub use Rattle.hb_read_declarations.specs.declared.parts.Width.{Width}
-pub use Rattle.hb_read_declarations.specs.declared.parts.FixAt.{FixAt}
+pub use Rattle.hb_read_declarations.specs.declared.width.Width.{Width}
 use Rattle.hb_read_declarations.specs.Codes.{word_code}
 
 abbrev pub at_place : Place → Name → NameAt
@@ -93,31 +87,6 @@ kind_bits _ = None
 
 abbrev pub bits : Token → Option Width
 bits t = kind_bits t.kind
-
-abbrev pub fix_at : Place → Fix → FixAt
-fix_at place fix = record { place = place; fix = fix }
-
-abbrev pub word_fix : Place → Word → Option FixAt
-word_fix p word.Infixl = Some (fix_at p Left)
-word_fix p word.Infixr = Some (fix_at p Right)
-word_fix p word.Infix = Some (fix_at p Neither)
-word_fix p _ = None
-
-abbrev pub kind_fix : Place → TokenKind → Option FixAt
-kind_fix p (AWord w) = word_fix p w
-kind_fix p _ = None
-
--- `infixl`, `infixr` or `infix`
-abbrev pub fixing : Token → Option FixAt
-fixing t = kind_fix t.place t.kind
-
-abbrev pub kind_dir : TokenKind → Option Dir
-kind_dir (ConId name) = if name.0 == 1 then Some In else if name.0 == 2 then Some Out else None
-kind_dir _ = None
-
--- `In` or `Out`
-abbrev pub direction : Token → Option Dir
-direction t = kind_dir t.kind
 
 abbrev pub kind_end : Place → TokenKind → Option Place
 kind_end p End = Some p

@@ -1,5 +1,5 @@
 -- Each frame can be ended, and the table is lawful: the machine reads just what the table says.
-use Rattle.std.proofs.Common.{◌≡◌, ℕ, zero, suc, ◌+◌, Bool, true, false, List, [], ◌∷◌, ◌++◌, Option, Some, None, is_some, refl, sym, ap, subst, ◌∙◌, arith}
+use Rattle.std.proofs.Common.{◌≡◌, ℕ, zero, suc, ◌+◌, Bool, true, false, List, [], ◌∷◌, ◌++◌, Option, Some, None, is_some, refl, sym, ap, subst, ◌∙◌}
 use Rattle.hb_base.specs.declared.name.Name.{Name}
 use Rattle.hb_base.specs.declared.place.Place.{Place}
 use Rattle.hb_base.specs.Fixed.{pad, slash}
@@ -25,7 +25,7 @@ use Rattle.hb_read_declarations.proofs.Known.{some_none, true_false, none_is, ru
 use Rattle.hb_read_declarations.proofs.Leaves.{some_token}
 use Rattle.hb_read_declarations.proofs.WorthLaws.{word_is, mark_is, this_con_is}
 use Rattle.hb_read_declarations.proofs.Equations.{inside}
-use Rattle.hb_read_declarations.proofs.Typing.{in_types}
+use Rattle.hb_read_declarations.proofs.Typing.{in_types, a_context_known}
 use Rattle.hb_read_program.specs.Rules.{Leaf, Symbol, Item, Kind, Head, Form, Begins, no_leaf, begins, begins_line, begins_class, heads, behind, begins_with, nothing_of, found, fits, put_out, node_of}
 use Rattle.hb_read_program.specs.declared.symbol.Leaf.TheVariants as leaf
 use Rattle.hb_read_program.specs.declared.symbol.Kind.TheVariants as kind
@@ -34,9 +34,10 @@ use Rattle.hb_read_program.specs.declared.side.Side.TheVariants as side
 use Rattle.hb_read_program.specs.declared.side.Spot.TheVariants as spot
 use Rattle.hb_read_program.specs.declared.side.Heading.TheVariants as heading
 use Rattle.hb_read_program.specs.Sets.{begin_codes, is_nothing, only_if, within, first, follow, apart_heads, heads_keep, leaf_keeps, ends_within, ends_by, items_end}
+use Rattle.hb_read_program.proofs.Counting.{next_suc}
 use Rattle.hb_read_program.proofs.Checked.{table_keeps, table_ends}
 use Rattle.hb_read_program.proofs.TableLaws.{LeafReads, leaf_known, found_none, fits_code, both_left, both_right}
-use Rattle.hb_read_program.proofs.Fits.{an_eq, context_fine, gone_side, live_side, Fit, fit_waits, fit_reads, fit_line, fit_class, frame_first, frame_follow, side_lives, heading_lives, class_items}
+use Rattle.hb_read_program.proofs.Fits.{an_eq, gone_side, live_side, Fit, fit_waits, fit_reads, fit_line, fit_class, frame_first, frame_follow, side_lives, heading_lives, class_items}
 use Rattle.hb_read_program.proofs.Turns.{law_begins, law_ends, law_turns}
 
 abbrev pub Rows : List Frame → List Token → Out → List Token → Type 0
@@ -107,7 +108,7 @@ class_run {us} {vs} t {v} {ms} h (stop {s} e) i k r =
     (row_turn {n = turn_to (frames_of class_items t.place 0 t) v} (if_true (is_some (this_word word.DoubleArrow t)) _ _ k ∙ ap (mapped (turn_to (frames_of class_items t.place 0 t))) e) r)
 class_run t h (take {s} {r} {t = x} e m) i k q =
     row_turn {n = turn_to (reads_class (Some r) (heading_moved h x) ∷ []) []}
-    (if_false (is_some (this_word word.DoubleArrow x)) _ _ (other_word word.DoubleArrow x in_types (context_fine.takes e) refl) ∙ ap (λ o. still_class o (heading_moved h x)) e)
+    (if_false (is_some (this_word word.DoubleArrow x)) _ _ (other_word word.DoubleArrow x in_types (a_context_known.takes e) refl) ∙ ap (λ o. still_class o (heading_moved h x)) e)
     (class_run t (heading_moved h x) m i k q)
 
 pub class_row : {s : ContextReader} {ts us vs : List Token} (t : Token) {v ms : Out} (h : Heading) → Runs a_context s ts v (t ∷ us) → is_some (this_word word.DoubleArrow t) ≡ true → Rows (frames_of class_items t.place 0 t) us ms vs → Rows (reads_class (Some s) h ∷ []) ts (v ++ ms) vs
@@ -198,7 +199,7 @@ abbrev a_name : NameAt
 a_name = record { place = record { line = 0; col = 0 }; name = pad }
 
 pub names_nothing : (k : ℕ) (out : Out) → class_nothing (heading.Names (k + 1) out) ≡ Some (no_context ++ (out ++ node.Names (suc k) ∷ []))
-names_nothing k out = let e : k + 1 ≡ suc k = omega arith in ap (λ m. class_nothing (heading.Names m out)) e
+names_nothing k out = ap (λ m. class_nothing (heading.Names m out)) (next_suc k)
 
 names_ended : (c : Option ContextReader) (k : ℕ) (out : Out) → Ended (reads_class c (heading.Names k out) ∷ [])
 names_ended c k out =
@@ -275,7 +276,7 @@ law_finishes (fit_waits {s} {p} {n}) = symbol_ended s p n
 law_finishes (fit_reads {l} h) = leaf_finishes l ((leaf_known l).exact.alive h)
 law_finishes (fit_line {d} (live_side h) k) = line_finishes d ((leaf_known leaf.Equation).exact.alive h)
 law_finishes (fit_line {d} gone_side k) = gone_line d k
-law_finishes (fit_class {h = y} (live_side h) k) = class_finishes y (context_fine.exact.alive h) (all_ended class_items an_arrow.place 0 an_arrow)
+law_finishes (fit_class {h = y} (live_side h) k) = class_finishes y (a_context_known.exact.alive h) (all_ended class_items an_arrow.place 0 an_arrow)
 law_finishes (fit_class {h = y} gone_side k) = gone_class y k
 
 -- the table of the grammar is lawful

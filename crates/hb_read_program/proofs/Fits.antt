@@ -6,22 +6,17 @@ use Rattle.hb_tokens.specs.declared.token.Token.{Token}
 use Rattle.hb_tokens.specs.declared.word.Word.TheVariants as word
 use Rattle.hb_tree.specs.declared.types.NameAt.{NameAt}
 use Rattle.hb_grammar.specs.Reading.{Reader, Reached}
-use Rattle.hb_grammar.specs.Types.{ReadsContext}
 use Rattle.hb_engine.specs.Lawful.{either}
-use Rattle.hb_read_types.specs.Nodes.{context_nodes}
 use Rattle.hb_read_types.specs.declared.context_reader.ContextReader.{ContextReader}
 use Rattle.hb_read_patterns.specs.Moves.{pat_start}
 use Rattle.hb_read_expressions.specs.declared.state.State.{State}
 use Rattle.hb_read_declarations.specs.Codes.{code, member}
 use Rattle.hb_read_declarations.specs.Combined.{mapped}
-use Rattle.hb_read_declarations.specs.Exactly.{Made}
-use Rattle.hb_read_declarations.specs.Nodes.{typed}
 use Rattle.hb_read_declarations.specs.Readers.{Out, an_equation}
 use Rattle.hb_read_declarations.specs.Worths.{var, con, op, this_word, mark}
-use Rattle.hb_read_declarations.proofs.Known.{Known, some_is, some_place}
-use Rattle.hb_read_declarations.proofs.Lists.{fine_again}
+use Rattle.hb_read_declarations.proofs.Known.{some_is, some_place}
 use Rattle.hb_read_declarations.proofs.WorthLaws.{var_code, con_code, op_code, word_is_code, mark_code}
-use Rattle.hb_read_declarations.proofs.Typing.{in_types, context_bare_fine}
+use Rattle.hb_read_declarations.proofs.Typing.{a_context_known}
 use Rattle.hb_read_program.specs.Rules.{Leaf, Symbol, Item, a_con, plain}
 use Rattle.hb_read_program.specs.declared.symbol.Symbol.TheVariants as symbol
 use Rattle.hb_read_program.specs.Frames.{LeafState, leaf_reader, a_context, Frame, waits, reads, reads_line, reads_class, ATurn, turn_to, frames_of, Side, Heading, Spot, spot_if, name_spot, operator_spot, close_spot, comma_if, spot_moved, side_moved, side_start, sig_if, sig_turn, as_sig, still_line, expr_moved, or_line, line_turn, first_heading, next_heading, heading_moved, context_moved, context_whole, still_class, class_turn}
@@ -33,9 +28,6 @@ use Rattle.hb_read_program.proofs.TableLaws.{within_is}
 
 abbrev pub an_eq : Reader State Out
 an_eq = an_equation pat_start
-
-pub context_fine : Known a_context (Made ReadsContext (λ a. typed (context_nodes a))) false type_codes in_types in_types
-context_fine = (fine_again context_nodes typed context_bare_fine).known
 
 -- frames that come about
 
@@ -215,4 +207,4 @@ context_code None t e = cc
 context_code (Some s) t e = from_some (some_place (a_context.move s t) e)
   where
     from_some : (r : ContextReader) × (a_context.move s t ≡ Some r) → member (code t) type_codes ≡ true
-    from_some (r, d) = context_fine.takes d
+    from_some (r, d) = a_context_known.takes d

@@ -1,5 +1,5 @@
 pub mod Checked
-pub mod LeafExpr
+pub mod Counting
 pub mod TableLaws
 pub mod Fits
 pub mod Turns

@@ -14,22 +14,25 @@ use Rattle.hb_grammar.specs.Reading.{Runs}
 use Rattle.hb_grammar.specs.Tokens.{IsVar, IsOp, IsCon, IsWord, IsNumber, IsBits, IsClose, IsComma, IsSemicolon, IsCloseSquare, IsCloseBrace}
 use Rattle.hb_grammar.specs.Types.{name_at, ReadsType, ReadsAtype, ReadsAtypes, ReadsPred}
 use Rattle.hb_grammar.specs.Expressions.{ReadsExpr}
-use Rattle.hb_grammar.specs.Declarations.{a_name, dir_name, ReadsInfixes, ReadsVars, ReadsFieldDecl, ReadsBitPart, ReadsBitParts, ReadsBitCon, ReadsSize, ReadsStructPart, ReadsInit, ReadsStart, ReadsAlign, ReadsDepend, ReadsDepends, ReadsSigs, ReadsMethods, ReadsConditions, ReadsInstanceBody, ReadsDecls}
+use Rattle.hb_grammar.specs.Declarations.{a_name, dir_name, ReadsInfixes, ReadsVars, ReadsBitPart, ReadsBitParts, ReadsBitCon, ReadsSize, ReadsStructPart}
+use Rattle.hb_grammar.specs.Declarations.{ReadsInit, ReadsStart, ReadsAlign, ReadsDepend, ReadsDepends, ReadsSigs, ReadsMethods, ReadsConditions}
+use Rattle.hb_grammar.specs.Declarations.{ReadsInstanceBody, ReadsDecls}
 use Rattle.hb_read_types.specs.declared.context_reader.ContextReader.{ContextReader}
 use Rattle.hb_read_expressions.specs.declared.state.State.{State}
 use Rattle.hb_read_declarations.specs.declared.node.DeclNode.{DeclNode}
 use Rattle.hb_read_declarations.specs.declared.node.DeclNode.TheVariants as node
 use Rattle.hb_read_declarations.specs.Exactly.{ProgramRead}
-use Rattle.hb_read_declarations.specs.Nodes.{counted, closed, named, names_of, number_of, type_of, pred_of, context_whole, sig_of, data_con_of, fields_of, bit_part_of, bit_con_of, struct_part_of, depend_of, bind_of, init_nodes, field_init_nodes, fields_count, start_of, decl_nodes, program_nodes}
+use Rattle.hb_read_declarations.specs.Nodes.{counted, closed, named, names_of, number_of, type_of, pred_of, context_whole, sig_of, data_con_of, bit_part_of}
+use Rattle.hb_read_declarations.specs.Nodes.{bit_con_of, struct_part_of, depend_of, bind_of, init_nodes, field_init_nodes, fields_count, start_of, decl_nodes}
+use Rattle.hb_read_declarations.specs.Nodes.{program_nodes}
 use Rattle.hb_read_declarations.specs.Readers.{Out, no_context}
 use Rattle.hb_read_declarations.proofs.Lists.{Several, Behind, Block}
 use Rattle.hb_read_declarations.proofs.Leaves.{VarRead, ConRead}
-use Rattle.hb_read_declarations.proofs.Smaller.{NameRead, InfixRead, SomeVars}
-use Rattle.hb_read_declarations.proofs.Plain.{IsBar, DataConRead}
-use Rattle.hb_read_declarations.proofs.Typing.{Qualified, QualifiedRead}
+use Rattle.hb_read_declarations.proofs.Names.{NameRead, InfixRead, SomeVars}
+use Rattle.hb_read_declarations.proofs.Parts.{IsBar, DataConRead, ClassHeadRead, class_head_of, SomeTypes, args_of}
+use Rattle.hb_read_declarations.proofs.Typing.{Qualified, QualifiedRead, qualified_of}
 use Rattle.hb_read_declarations.proofs.Equations.{EquationRead}
-use Rattle.hb_read_declarations.proofs.Blocked.{qualified_of, ClassHeadRead, class_head_of, SomeTypes, args_of}
-use Rattle.hb_read_declarations.proofs.InitExact.{expr_of}
+use Rattle.hb_read_declarations.proofs.ExprTokens.{expr_of}
 use Rattle.hb_read_program.specs.Rules.{Leaf, Symbol, Kind, Put, Form, Things, fits, node_of, put_out}
 use Rattle.hb_read_program.specs.declared.symbol.Leaf.TheVariants as leaf
 use Rattle.hb_read_program.specs.declared.symbol.Symbol.TheVariants as symbol
@@ -130,7 +133,6 @@ SymbolMeans symbol.SomeAtypes p n = Thing SomeTypes args_of
 SymbolMeans symbol.Size p n = Thing ReadsSize number_of
 SymbolMeans symbol.Align p n = Thing ReadsAlign number_of
 SymbolMeans symbol.DataCon p n = Thing DataConRead data_con_of
-SymbolMeans symbol.FieldDecl p n = Thing ReadsFieldDecl fields_of
 SymbolMeans symbol.BitPart p n = Thing ReadsBitPart bit_part_of
 SymbolMeans symbol.BitParts p n = BitRest n
 SymbolMeans symbol.MoreBitParts p n = MoreBits n

@@ -17,10 +17,9 @@ use Rattle.hb_read_declarations.specs.declared.node.DeclNode.TheVariants as node
 use Rattle.hb_read_declarations.specs.Nodes.{counted, names_of, sig_of, bind_of, decl_nodes}
 use Rattle.hb_read_declarations.specs.Readers.{Out}
 use Rattle.hb_read_declarations.proofs.Lists.{Block, no_thing, empty_thing, last_in, more_in}
-use Rattle.hb_read_declarations.proofs.Smaller.{names_from}
-use Rattle.hb_read_declarations.proofs.Typing.{Qualified}
+use Rattle.hb_read_declarations.proofs.Names.{names_from}
+use Rattle.hb_read_declarations.proofs.Typing.{Qualified, qualified_of}
 use Rattle.hb_read_declarations.proofs.Equations.{EquationRead, binds_from}
-use Rattle.hb_read_declarations.proofs.Blocked.{qualified_of}
 use Rattle.hb_read_program.specs.Rules.{head, mark_head, word_head, close_head, name_in, item}
 use Rattle.hb_read_program.specs.declared.symbol.Kind.TheVariants as kind
 use Rattle.hb_read_program.specs.declared.symbol.Put.TheVariants as put

@@ -18,15 +18,16 @@ use Rattle.hb_read_declarations.specs.Readers.{Out, no_context}
 use Rattle.hb_read_declarations.specs.Worths.{var, con}
 use Rattle.hb_read_declarations.proofs.Known.{some_is}
 use Rattle.hb_read_declarations.proofs.Leaves.{ConRead, con_read}
-use Rattle.hb_read_declarations.proofs.Smaller.{SomeVars, some_vars}
-use Rattle.hb_read_declarations.proofs.Blocked.{context_of, ClassHeadRead, class_head, class_head_of}
+use Rattle.hb_read_declarations.proofs.Names.{SomeVars, some_vars}
+use Rattle.hb_read_declarations.proofs.Parts.{ClassHeadRead, class_head, class_head_of}
 use Rattle.hb_read_declarations.proofs.WorthLaws.{var_of, con_of}
+use Rattle.hb_read_declarations.proofs.Typing.{context_of, a_context_known}
 use Rattle.hb_read_program.specs.Rules.{fits, name_in}
 use Rattle.hb_read_program.specs.declared.symbol.Kind.TheVariants as kind
 use Rattle.hb_read_program.specs.declared.symbol.Symbol.TheVariants as symbol
 use Rattle.hb_read_program.specs.Frames.{a_context, reads_class, ATurn, frames_of, Heading, first_heading, next_heading, heading_moved, context_moved, context_whole, class_nothing}
 use Rattle.hb_read_program.specs.declared.side.Heading.TheVariants as heading
-use Rattle.hb_read_program.proofs.Fits.{context_fine, class_items, ClassTurn, class_arrow, class_still}
+use Rattle.hb_read_program.proofs.Fits.{class_items, ClassTurn, class_arrow, class_still}
 use Rattle.hb_read_program.proofs.Means.{Thing, thing, one_fits, counted_from, has_names, HeadingMeans, before_names, among_names, ClassMeans, by_context, by_heading, Means}
 use Rattle.hb_read_program.proofs.MeansLaws.{thing_as, no_other, class_law, never_law, SymbolLaw}
 use Rattle.hb_read_program.proofs.MeansTokens.{is_con, is_word}
@@ -127,7 +128,7 @@ head_with {n} {ns} m f g k =
     thing_as (record { context = m.thing; name = n; params = ns }) (class_head (grammar.supers m.read f) g k) (ap (λ v. v ++ (named n ++ names_of ns)) (sym m.is))
 
 context_run : {s : ContextReader} {ts us : List Token} {v : Out} → Some a_context.start ≡ Some s → Runs a_context s ts v us → Made ReadsContext context_of ts v us
-context_run {ts} {us} {v} i h = context_fine.exact.sound (subst (λ s. Runs a_context s ts v us) (sym (some_is i)) h)
+context_run {ts} {us} {v} i h = a_context_known.exact.sound (subst (λ s. Runs a_context s ts v us) (sym (some_is i)) h)
 
 head_alone : {ts us : List Token} {ms : Out} → HeadingMeans heading.Before ts ms us → Thing ClassHeadRead class_head_of ts ms us
 head_alone (before_names {n} {ns} g k) =

@@ -4,7 +4,7 @@ use Rattle.hb_base.specs.declared.place.Place.{Place}
 use Rattle.hb_tokens.specs.declared.token.Token.{Token}
 use Rattle.hb_grammar.specs.Reading.{stop, take}
 use Rattle.hb_engine.proofs.EngineLaw.{append_none}
-use Rattle.hb_engine.proofs.Model.{All, nothing, then, Closed, row_means}
+use Rattle.hb_engine.proofs.Model.{All, nothing, then, Closed, Split, split, split_all, row_means}
 use Rattle.hb_read_declarations.specs.Exactly.{Made, ProgramRead}
 use Rattle.hb_read_declarations.specs.Nodes.{program_nodes}
 use Rattle.hb_read_declarations.specs.Readers.{Out}
@@ -18,10 +18,11 @@ use Rattle.hb_read_program.proofs.TableLaws.{leaf_known}
 use Rattle.hb_read_program.proofs.Fits.{an_eq, line_of, class_of}
 use Rattle.hb_read_program.proofs.Finishes.{Rows}
 use Rattle.hb_read_program.proofs.Means.{OneToken, one_fits, closes, LeafMeans, Means}
-use Rattle.hb_read_program.proofs.MeansLaws.{made_thing, leaf_means, HeadLaw, no_other, and_also, BehindLeaf, BehindLine, LeafLaw, no_leaf_law, leaf_law, line_law, class_law, never_law, nothing_law, SymbolLaw, Picked, picked, null_means, Split, split, split_all}
+use Rattle.hb_read_program.proofs.MeansLaws.{made_thing, leaf_means, HeadLaw, no_other, and_also, BehindLeaf, BehindLine, LeafLaw, no_leaf_law, leaf_law}
+use Rattle.hb_read_program.proofs.MeansLaws.{line_law, class_law, never_law, nothing_law, SymbolLaw, Picked, picked, null_means}
 use Rattle.hb_read_program.proofs.MeansLists.{more_law, name_law, infix_law, vars_law, some_vars_law, atypes_law, some_atypes_law, size_law, align_law, data_con_law}
 use Rattle.hb_read_program.proofs.MeansInits.{field_law, more_inits_law, init_law, start_law}
-use Rattle.hb_read_program.proofs.MeansParts.{field_decl_law, bit_part_law, bit_parts_law, more_bit_parts_law, bit_con_law, struct_part_law, digit_law, direction_law, depend_law, depends_law, conditions_law}
+use Rattle.hb_read_program.proofs.MeansParts.{bit_part_law, bit_parts_law, more_bit_parts_law, bit_con_law, struct_part_law, digit_law, direction_law, depend_law, depends_law, conditions_law}
 use Rattle.hb_read_program.proofs.MeansBlocks.{sigs_law, after_sig_law, methods_law, rows_law, after_row_law, body_law, after_top_law}
 use Rattle.hb_read_program.proofs.MeansLines.{line_null, line_turns}
 use Rattle.hb_read_program.proofs.MeansClass.{class_null, class_turns, class_head_law}
@@ -65,7 +66,6 @@ symbol_law symbol.SomeAtypes = some_atypes_law
 symbol_law symbol.Size = size_law
 symbol_law symbol.Align = align_law
 symbol_law symbol.DataCon = data_con_law
-symbol_law symbol.FieldDecl = field_decl_law
 symbol_law symbol.BitPart = bit_part_law
 symbol_law symbol.BitParts = bit_parts_law
 symbol_law symbol.MoreBitParts = more_bit_parts_law
@@ -107,7 +107,9 @@ leaf_begun s l is p n t {ts} {us} {ms} k (Some r) d e =
     let P : ATurn → Type 0 = λ x. All Means x.frames ts ms us → Means (waits s p n) (t ∷ ts) (x.nodes ++ ms) us in
     subst P (some_is e) (λ a. leaf_taken s l is p n t k d a)
 
-line_taken : (s : Symbol) (is : List Item) (p : Place) (n : ℕ) (t : Token) (m : ATurn) {ts vs : List Token} {ms : Out} → BehindLine s is → line_turn (Some an_eq.start) side_start t ≡ Some m → Split m.frames (frames_of is t.place n t) ts ms vs → Means (waits s p n) (t ∷ ts) (m.nodes ++ ms) vs
+line_taken : (s : Symbol) (is : List Item) (p : Place) (n : ℕ) (t : Token) (m : ATurn) {ts vs : List Token} {ms : Out} → BehindLine s is →
+    line_turn (Some an_eq.start) side_start t ≡ Some m → Split Means m.frames (frames_of is t.place n t) ts ms vs →
+    Means (waits s p n) (t ∷ ts) (m.nodes ++ ms) vs
 line_taken s is p n t m {ts} {vs} k e (split us ls ns a b i) =
     subst (λ ms. Means (waits s p n) (t ∷ ts) ms vs) (append_assoc m.nodes ls ns ∙ ap (λ ms. m.nodes ++ ms) i)
     (k p n t ts us vs (m.nodes ++ ls) ns (line_turns (Some an_eq.start) side_start t (line_of (Some an_eq.start) side_start t e) a) b)

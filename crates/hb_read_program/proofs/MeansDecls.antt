@@ -24,9 +24,8 @@ use Rattle.hb_read_declarations.specs.Exactly.{program_read}
 use Rattle.hb_read_declarations.specs.Nodes.{counted, closed, named, names_of, number_of, type_of, pred_of, context_whole, sig_of, data_con_of, bit_con_of, struct_part_of, depend_of, bind_of, start_of, decl_nodes}
 use Rattle.hb_read_declarations.specs.Readers.{Out}
 use Rattle.hb_read_declarations.proofs.Leaves.{con_read}
-use Rattle.hb_read_declarations.proofs.Smaller.{some_vars}
-use Rattle.hb_read_declarations.proofs.Plain.{data_cons_from, bit_cons_from, struct_parts_from}
-use Rattle.hb_read_declarations.proofs.Blocked.{ClassHead, ClassHeadRead, class_head, class_head_of, SomeTypes, some_types, args_of}
+use Rattle.hb_read_declarations.proofs.Names.{some_vars}
+use Rattle.hb_read_declarations.proofs.Parts.{data_cons_from, bit_cons_from, struct_parts_from, ClassHead, ClassHeadRead, class_head, class_head_of, SomeTypes, some_types, args_of}
 use Rattle.hb_read_program.specs.Rules.{mark_head, word_head, name_in}
 use Rattle.hb_read_program.specs.declared.symbol.Symbol.TheVariants as symbol
 use Rattle.hb_read_program.specs.declared.symbol.Production.TheVariants as production

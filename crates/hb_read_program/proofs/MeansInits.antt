@@ -23,10 +23,10 @@ use Rattle.hb_read_program.specs.declared.symbol.Form.TheVariants as form
 use Rattle.hb_read_program.specs.declared.symbol.Leaf.TheVariants as leaf
 use Rattle.hb_read_program.specs.declared.symbol.Production.TheVariants as production
 use Rattle.hb_read_program.specs.Frames.{waits}
+use Rattle.hb_read_program.proofs.Counting.{none_more, counts}
 use Rattle.hb_read_program.proofs.Means.{thing, one_fits, closes, field_means, FieldsBehind, no_fields, next_field, fields_from, Means}
 use Rattle.hb_read_program.proofs.MeansLaws.{thing_as, HeadLaw, no_other, and_also, no_leaf_law, BehindLeaf, leaf_law, never_law, nothing_law, SymbolLaw}
 use Rattle.hb_read_program.proofs.MeansTokens.{is_var, is_word, is_mark}
-use Rattle.hb_read_program.proofs.MeansLists.{next_count, plus_none}
 
 -- fields with a mark between, up to `]`
 
@@ -53,13 +53,13 @@ field_law = record { by_head = and_also field_head no_other; by_leaf = no_leaf_l
 
 fields_close : HeadLaw symbol.MoreInits (close_head 93 form.InitFields)
 fields_close p n t ts us ms e nothing =
-    thing_as NoFieldInits (no_fields (is_mark 93 t e)) (ap (λ k. node.InitFields p k ∷ []) (plus_none n))
+    thing_as NoFieldInits (no_fields (is_mark 93 t e)) (ap (λ k. node.InitFields p k ∷ []) (sym (none_more n)))
 
 next_nodes : (p : Place) (n : ℕ) (name : NameAt) (i : InitExpr) (fs : FieldInits) → fields_from p n (MoreFieldInits name i fs) ≡ (named name ++ (init_nodes i ++ node.InitField ∷ [])) ++ (fields_from p (n + 1) fs ++ [])
 next_nodes p n name i fs =
     let x : Out = named name ++ (init_nodes i ++ node.InitField ∷ []) in
     append_assoc x (field_init_nodes fs) (node.InitFields p (n + (1 + fields_count fs)) ∷ [])
-    ∙ (ap (λ k. x ++ (field_init_nodes fs ++ node.InitFields p k ∷ [])) (sym (next_count n (fields_count fs))) ∙ ap (λ m. x ++ m) (sym (append_none (fields_from p (n + 1) fs))))
+    ∙ (ap (λ k. x ++ (field_init_nodes fs ++ node.InitFields p k ∷ [])) (sym (counts n (fields_count fs))) ∙ ap (λ m. x ++ m) (sym (append_none (fields_from p (n + 1) fs))))
 
 fields_bar : HeadLaw symbol.MoreInits (word_head word.Bar production.MoreInits)
 fields_bar p n t ts us ms e (then (field_means {t = s} {name} {i} d f h) (then (thing {a = fs} k) nothing)) =

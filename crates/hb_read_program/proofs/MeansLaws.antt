@@ -2,7 +2,7 @@
 use Rattle.std.proofs.Common.{◌≡◌, ℕ, true, List, [], ◌∷◌, ◌++◌, Option, Some, None, refl, sym, ap, subst, ◌∙◌, append_assoc}
 use Rattle.hb_base.specs.declared.place.Place.{Place}
 use Rattle.hb_tokens.specs.declared.token.Token.{Token}
-use Rattle.hb_engine.proofs.Model.{All, nothing, then}
+use Rattle.hb_engine.proofs.Model.{All}
 use Rattle.hb_engine.proofs.EngineLaw.{append_none}
 use Rattle.hb_read_declarations.specs.Exactly.{Made}
 use Rattle.hb_read_declarations.specs.Readers.{Out}
@@ -10,7 +10,7 @@ use Rattle.hb_read_declarations.proofs.Known.{some_is}
 use Rattle.hb_read_program.specs.Rules.{Leaf, Symbol, Item, Head, Form, Begins, no_leaf, begins, begins_line, begins_class, heads, behind, begins_with, nothing_of, fits, found, node_of, put_out}
 use Rattle.hb_read_program.specs.declared.symbol.Leaf.TheVariants as leaf
 use Rattle.hb_read_program.specs.declared.side.Heading.TheVariants as heading
-use Rattle.hb_read_program.specs.Frames.{a_context, Frame, waits, frames_of, place_of, side_start, put_nothing}
+use Rattle.hb_read_program.specs.Frames.{a_context, waits, frames_of, place_of, side_start, put_nothing}
 use Rattle.hb_read_program.proofs.TableLaws.{LeafReads}
 use Rattle.hb_read_program.proofs.Fits.{an_eq, by_cond}
 use Rattle.hb_read_program.proofs.Means.{Thing, thing, LeafMeans, LineMeans, ClassMeans, Means}
@@ -106,15 +106,3 @@ picked {P} t {h = x} (and_also {h} {hs} k ks) e =
 pub null_means : {s : Symbol} (p : Place) (n : ℕ) {o : Option Form} {ns : Out} (ts : List Token) → NothingLaw s o → put_nothing o p n ≡ Some ns → Means (waits s p n) ts ns ts
 null_means p n ts never_law e = cc
 null_means {s} p n ts (nothing_law k) e = subst (λ ns. Means (waits s p n) ts ns ts) (some_is e) (k p n ts)
-
--- frames in two parts
-
-pub data Split (gs fs : List Frame) (ts : List Token) (ms : Out) (vs : List Token) : Type 0 where
-  split : (us : List Token) (ls ns : Out) → All Means gs ts ls us → All Means fs us ns vs → ls ++ ns ≡ ms → Split gs fs ts ms vs
-
-put_before : {g : Frame} {gs fs : List Frame} (ks : Out) {ms : Out} {ts us vs : List Token} → Means g ts ks us → Split gs fs us ms vs → Split (g ∷ gs) fs ts (ks ++ ms) vs
-put_before ks h (split us ls ns a b e) = split us (ks ++ ls) ns (then h a) b (append_assoc ks ls ns ∙ ap (λ ms. ks ++ ms) e)
-
-pub split_all : (gs : List Frame) {fs : List Frame} {ms : Out} {ts vs : List Token} → All Means (gs ++ fs) ts ms vs → Split gs fs ts ms vs
-split_all [] {ms} {ts} h = split ts [] ms nothing h refl
-split_all (g ∷ gs) (then {ms = ks} h k) = put_before ks h (split_all gs k)

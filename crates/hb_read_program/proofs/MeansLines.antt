@@ -1,5 +1,5 @@
 -- What the table says of an equation and of a signature, which are read side by side, the grammar says.
-use Rattle.std.proofs.Common.{◌≡◌, ℕ, suc, ◌+◌, true, List, [], ◌∷◌, ◌++◌, Option, Some, None, refl, sym, ap, subst, ◌∙◌, arith}
+use Rattle.std.proofs.Common.{◌≡◌, ℕ, ◌+◌, true, List, [], ◌∷◌, ◌++◌, Option, Some, None, refl, sym, ap, subst, ◌∙◌}
 use Rattle.hb_base.specs.declared.name.Name.{Name}
 use Rattle.hb_base.specs.declared.place.Place.{Place}
 use Rattle.hb_tokens.specs.declared.token.Token.{Token}
@@ -24,10 +24,9 @@ use Rattle.hb_read_declarations.specs.Readers.{Out}
 use Rattle.hb_read_declarations.specs.Worths.{var, op, mark}
 use Rattle.hb_read_declarations.proofs.Known.{some_is, Of, of, mapped_of}
 use Rattle.hb_read_declarations.proofs.Lists.{nothing_more, a_thing, behind as behind_mark}
-use Rattle.hb_read_declarations.proofs.Smaller.{NameRead, names_from}
-use Rattle.hb_read_declarations.proofs.Typing.{Qualified}
+use Rattle.hb_read_declarations.proofs.Names.{NameRead, names_from}
+use Rattle.hb_read_declarations.proofs.Typing.{Qualified, qualified_of}
 use Rattle.hb_read_declarations.proofs.Equations.{EquationRead, equation_read}
-use Rattle.hb_read_declarations.proofs.Blocked.{qualified_of}
 use Rattle.hb_read_declarations.proofs.WorthLaws.{var_of, op_of, mark_of}
 use Rattle.hb_read_program.specs.Rules.{item, fits}
 use Rattle.hb_read_program.specs.declared.symbol.Kind.TheVariants as kind
@@ -37,6 +36,7 @@ use Rattle.hb_read_program.specs.declared.symbol.Leaf.TheVariants as leaf
 use Rattle.hb_read_program.specs.Frames.{reads_line, ATurn, frames_of, first_at, Side, Spot, name_spot, operator_spot, close_spot, spot_if, comma_if, side_moved, side_start, sig_behind, expr_moved, line_nothing}
 use Rattle.hb_read_program.specs.declared.side.Side.TheVariants as side
 use Rattle.hb_read_program.specs.declared.side.Spot.TheVariants as spot
+use Rattle.hb_read_program.proofs.Counting.{next_suc}
 use Rattle.hb_read_program.proofs.TableLaws.{leaf_known}
 use Rattle.hb_read_program.proofs.Fits.{an_eq, LineTurn, line_sig, line_still, SigTurn, sig_at, sig_of as sig_turn_of}
 use Rattle.hb_read_program.proofs.Means.{Thing, thing, closes, counted_from, After, LeafMeans, want_names, open_names, operator_names, named_names, SigRest, sig_rest, SideMeans, LineMeans, by_equation, by_signature, Means}
@@ -99,7 +99,7 @@ close_back p k out q name t (Some r) d (sig_rest (named_names h) f g) =
 close_back p k out q name t None d h = absurd h
 
 later_first : (k : ℕ) (p : Place) (n : NameAt) → first_at (k + 1) p n ≡ p
-later_first k p n = let e : k + 1 ≡ suc k = omega arith in ap (λ m. first_at m p n) e
+later_first k p n = ap (λ m. first_at m p n) (next_suc k)
 
 next_name_nodes : (p : Place) (k : ℕ) (out : Out) (n m : NameAt) (ns : List NameAt) (q : Qualified) → out ++ (counted_from node.Names named k (n ∷ m ∷ ns) ++ (qualified_of q ++ node.Sig p ∷ [])) ≡ (out ++ named n) ++ (counted_from node.Names named (k + 1) (m ∷ ns) ++ (qualified_of q ++ node.Sig (first_at (k + 1) p m) ∷ []))
 next_name_nodes p k out n m ns q =

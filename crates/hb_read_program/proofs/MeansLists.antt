@@ -1,5 +1,5 @@
 -- What the table says is what the grammar says: tokens, names, and several things with a mark between.
-use Rattle.std.proofs.Common.{◌≡◌, ℕ, ◌+◌, List, [], ◌∷◌, ◌++◌, Some, None, refl, sym, ap, ◌∙◌, append_assoc, arith}
+use Rattle.std.proofs.Common.{◌≡◌, ℕ, ◌+◌, List, [], ◌∷◌, ◌++◌, Some, None, refl, sym, ap, ◌∙◌, append_assoc}
 use Rattle.hb_base.specs.declared.place.Place.{Place}
 use Rattle.hb_tokens.specs.declared.token.Token.{Token}
 use Rattle.hb_tokens.specs.declared.word.Word.TheVariants as word
@@ -15,9 +15,8 @@ use Rattle.hb_read_declarations.specs.Nodes.{counted, closed, named, type_of, pr
 use Rattle.hb_read_declarations.specs.Readers.{Out}
 use Rattle.hb_read_declarations.proofs.Lists.{Several, nothing_more, a_thing, Behind, behind as behind_mark, Separated, last_thing, more_things}
 use Rattle.hb_read_declarations.proofs.Leaves.{VarRead, var_read}
-use Rattle.hb_read_declarations.proofs.Smaller.{some_vars}
-use Rattle.hb_read_declarations.proofs.Plain.{data_con}
-use Rattle.hb_read_declarations.proofs.Blocked.{some_types}
+use Rattle.hb_read_declarations.proofs.Names.{some_vars}
+use Rattle.hb_read_declarations.proofs.Parts.{data_con, some_types}
 use Rattle.hb_read_program.specs.Rules.{Things, head, mute, mark_head, word_head, between, things_form, node_of, name_in, number_in, item}
 use Rattle.hb_read_program.specs.declared.symbol.Kind.TheVariants as kind
 use Rattle.hb_read_program.specs.declared.symbol.Put.TheVariants as put
@@ -27,30 +26,22 @@ use Rattle.hb_read_program.specs.declared.symbol.Count.TheVariants as count
 use Rattle.hb_read_program.specs.declared.symbol.Leaf.TheVariants as leaf
 use Rattle.hb_read_program.specs.declared.symbol.Production.TheVariants as production
 use Rattle.hb_read_program.specs.Frames.{waits}
+use Rattle.hb_read_program.proofs.Counting.{none_plus, none_more, counts}
 use Rattle.hb_read_program.proofs.Means.{Thing, thing, counted_from, OneToken, one_fits, closes, Means}
 use Rattle.hb_read_program.proofs.MeansLaws.{thing_as, HeadLaw, no_other, and_also, no_leaf_law, BehindLeaf, leaf_law, never_law, nothing_law, SymbolLaw}
 use Rattle.hb_read_program.proofs.MeansTokens.{is_var, is_con, is_op, is_number, is_slash, is_word, is_mark}
 
 -- nodes of things
 
-pub next_count : (a b : ℕ) → (a + 1) + b ≡ a + (1 + b)
-next_count a b = omega arith
-
-none_plus : (n : ℕ) → 0 + n ≡ n
-none_plus n = omega arith
-
-pub plus_none : (n : ℕ) → n + 0 ≡ n
-plus_none n = omega arith
-
 pub counted_zero : {A : Type 0} (whole : ℕ → DeclNode) (f : A → Out) (xs : List A) → counted_from whole f 0 xs ≡ closed whole (counted f xs)
 counted_zero whole f xs = ap (λ k. (counted f xs).nodes ++ whole k ∷ []) (none_plus (counted f xs).count)
 
 pub counted_none : {A : Type 0} (whole : ℕ → DeclNode) (f : A → Out) (n : ℕ) → counted_from whole f n [] ≡ whole n ∷ []
-counted_none whole f n = ap (λ k. whole k ∷ []) (plus_none n)
+counted_none whole f n = ap (λ k. whole k ∷ []) (sym (none_more n))
 
 pub counted_next : {A : Type 0} (whole : ℕ → DeclNode) (f : A → Out) (n : ℕ) (x : A) (xs : List A) → counted_from whole f n (x ∷ xs) ≡ f x ++ counted_from whole f (n + 1) xs
 counted_next whole f n x xs =
-    append_assoc (f x) (counted f xs).nodes (whole (n + (1 + (counted f xs).count)) ∷ []) ∙ ap (λ k. f x ++ ((counted f xs).nodes ++ whole k ∷ [])) (sym (next_count n (counted f xs).count))
+    append_assoc (f x) (counted f xs).nodes (whole (n + (1 + (counted f xs).count)) ∷ []) ∙ ap (λ k. f x ++ ((counted f xs).nodes ++ whole k ∷ [])) (sym (counts n (counted f xs).count))
 
 pub counted_first : {A : Type 0} (whole : ℕ → DeclNode) (f : A → Out) (x : A) (xs : List A) → closed whole (counted f (x ∷ xs)) ≡ f x ++ counted_from whole f 1 xs
 counted_first whole f x xs = append_assoc (f x) (counted f xs).nodes (whole (1 + (counted f xs).count) ∷ [])

@@ -1,7 +1,5 @@
 -- What the table says of parts of declarations, the grammar says: fields, bits, fixities, ports, dependencies and conditions.
-use Rattle.std.proofs.Common.{◌≡◌, ℕ, ◌≤◌, Bool, true, false, cond, List, [], ◌∷◌, ◌++◌, refl, sym, ap, subst, ◌∙◌, arith}
-use Rattle.std.specs.Prelude.{nat_le}
-use Rattle.std.proofs.lemmas.Bool.Decides.{nat_tests}
+use Rattle.std.proofs.Common.{◌≡◌, ℕ, true, List, [], ◌∷◌, ◌++◌, refl, sym, ap, subst, ◌∙◌}
 use Rattle.hb_base.specs.declared.place.Place.{Place}
 use Rattle.hb_base.specs.declared.port.Dir.{Dir}
 use Rattle.hb_base.specs.declared.port.Dir.TheVariants.{In, Out as Outwards}
@@ -26,16 +24,16 @@ use Rattle.hb_read_declarations.specs.Nodes.{counted, closed, named, names_of, t
 use Rattle.hb_read_declarations.specs.Readers.{Out}
 use Rattle.hb_read_declarations.proofs.Lists.{Several, nothing_more, a_thing, Behind, behind as behind_mark}
 use Rattle.hb_read_declarations.proofs.Leaves.{VarRead, var_read}
-use Rattle.hb_read_declarations.proofs.Smaller.{field_names_from, infixes_from, some_vars}
-use Rattle.hb_read_declarations.proofs.Plain.{IsBar, bit_parts_from}
-use Rattle.hb_read_declarations.proofs.Blocked.{depend_list_from, preds_from}
-use Rattle.hb_read_program.specs.Rules.{head, mute, word_head, close_head, fits, name_in, number_in, width_in, bits_in, digit_in}
+use Rattle.hb_read_declarations.proofs.Names.{field_names_from, infixes_from, some_vars}
+use Rattle.hb_read_declarations.proofs.Parts.{IsBar, bit_parts_from, depend_list_from, preds_from}
+use Rattle.hb_read_program.specs.Rules.{head, mute, word_head, close_head, fits, name_in, number_in, width_in, bits_in}
 use Rattle.hb_read_program.specs.declared.symbol.Kind.TheVariants as kind
 use Rattle.hb_read_program.specs.declared.symbol.Put.TheVariants as put
 use Rattle.hb_read_program.specs.declared.symbol.Symbol.TheVariants as symbol
 use Rattle.hb_read_program.specs.declared.symbol.Form.TheVariants as form
 use Rattle.hb_read_program.specs.declared.symbol.Production.TheVariants as production
 use Rattle.hb_read_program.specs.Frames.{waits}
+use Rattle.hb_read_program.proofs.Counting.{digit_small}
 use Rattle.hb_read_program.proofs.Means.{Thing, thing, counted_from, one_fits, closes, Optional, left_out, not_left_out, FixityRest, fixity_rest, port_rest, BitRest, no_bits, some_bits, MoreBits, more_bits, Means}
 use Rattle.hb_read_program.proofs.MeansLaws.{part, parts, same_parts, thing_as, HeadLaw, no_other, and_also, no_leaf_law, never_law, nothing_law, SymbolLaw}
 use Rattle.hb_read_program.proofs.MeansTokens.{is_var, is_con, is_number, is_digit, are_bits, is_pad, is_dir, is_word, is_mark}
@@ -49,13 +47,6 @@ field_at t ns a = record { names = name_at t (name_in t.kind) ∷ ns; of = a }
 field_of : {t s : Token} {ts us vs : List Token} {ns : List NameAt} {a : TypeExpr} → fits kind.Var t ≡ true → Several (Behind IsComma VarRead) ts ns (s ∷ us) → fits (kind.Word word.DoubleColon) s ≡ true → ReadsType us a vs → ReadsFieldDecl (t ∷ ts) (field_at t ns a) vs
 field_of {t} {s} e h f k =
     grammar.field_decl (field_names_from (with_more (var_read (is_var t e)) h)) (is_word word.DoubleColon s f) k
-
-field_decl_head : HeadLaw symbol.FieldDecl (head kind.Var put.Name production.FieldDecl)
-field_decl_head p n t ts us ms e (then (thing {a = ns} h) (then (one_fits {t = s} f) (then (thing {a} k) (then closes nothing)))) =
-    thing_as (field_at t ns a) (field_of e h f k) refl
-
-pub field_decl_law : SymbolLaw symbol.FieldDecl
-field_decl_law = record { by_head = and_also field_decl_head no_other; by_leaf = no_leaf_law; by_nothing = never_law }
 
 -- fields with a node behind
 
@@ -144,13 +135,6 @@ struct_part_law =
     record { by_head = and_also gap_head (and_also struct_fields_head no_other); by_leaf = no_leaf_law; by_nothing = never_law }
 
 -- the digit of a fixity
-
-digit_small : (k : ℕ) → k ≤ 9 → digit_in k ≡ k
-digit_small k h = by_test (nat_le k 9) refl
-  where
-    by_test : (b : Bool) → nat_le k 9 ≡ b → cond b k 9 ≡ k
-    by_test true e = refl
-    by_test false e = grind (arith, nat_tests, e, h)
 
 digit_head : (fix : Fix) → HeadLaw (symbol.Digit fix) (mute kind.Digit (production.Fixed fix))
 digit_head fix p n t ts us ms e (then (thing {a = x} h) (then (thing {a = xs} k) (then closes nothing))) =

@@ -11,7 +11,7 @@ use Rattle.hb_tokens.specs.declared.word.Word.{Word}
 use Rattle.hb_tree.specs.declared.types.NameAt.{NameAt}
 use Rattle.hb_grammar.specs.Tokens.{IsVar, IsCon, IsOp, IsWord, IsMark, IsNumber, IsBits, IsEnd}
 use Rattle.hb_grammar.specs.Declarations.{dir_name}
-use Rattle.hb_read_declarations.specs.declared.parts.Width.{Width}
+use Rattle.hb_read_declarations.specs.declared.width.Width.{Width}
 use Rattle.hb_read_declarations.specs.Worths.{var, con, op, this_con, this_op, this_word, mark, number, digit, bits, end_of, kind_end}
 use Rattle.hb_read_declarations.proofs.Known.{some_place}
 use Rattle.hb_read_declarations.proofs.WorthLaws.{var_of, con_of, op_of, this_con_of, this_op_of, word_of, mark_of, number_of_token, digit_of, bits_of}

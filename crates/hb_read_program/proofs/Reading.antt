@@ -1,5 +1,5 @@
 -- What the grammar says is what the table says: tokens, names, and several things with a mark between.
-use Rattle.std.proofs.Common.{◌≡◌, ℕ, ◌+◌, true, List, [], ◌∷◌, ◌++◌, Some, is_some, refl, sym, ap, subst, ◌∙◌, arith}
+use Rattle.std.proofs.Common.{◌≡◌, ℕ, ◌+◌, true, List, [], ◌∷◌, ◌++◌, Some, is_some, refl, sym, ap, subst, ◌∙◌}
 use Rattle.hb_base.specs.declared.name.Name.{Name}
 use Rattle.hb_base.specs.declared.place.Place.{Place}
 use Rattle.hb_tokens.specs.declared.token.Token.{Token}
@@ -21,6 +21,7 @@ use Rattle.hb_read_program.specs.declared.symbol.Kind.TheVariants as kind
 use Rattle.hb_read_program.specs.declared.symbol.Put.TheVariants as put
 use Rattle.hb_read_program.specs.declared.symbol.Symbol.TheVariants as symbol
 use Rattle.hb_read_program.specs.Frames.{waits, turn_to, frames_of, place_of, head_turn, put_nothing}
+use Rattle.hb_read_program.proofs.Counting.{none_more, counts}
 use Rattle.hb_read_program.proofs.Finishes.{Rows, rows_as}
 
 -- a symbol that begins with a token
@@ -76,11 +77,8 @@ a_number p n {t} e = rows_as (ap (λ k. node.Number (number_in k) ∷ []) e) (a_
 
 -- varid*
 
-counts : (a b : ℕ) → (a + 1) + b ≡ a + (1 + b)
-counts a b = omega arith
-
 pub vars_read : (p : Place) (n : ℕ) {ts us : List Token} {ns : List NameAt} → ReadsVars ts ns us → Rows (waits symbol.Vars p n ∷ []) ts ((counted named ns).nodes ++ node.Names (n + (counted named ns).count) ∷ []) us
-vars_read p n no_var = rows_as (ap (λ k. node.Names k ∷ []) (omega arith)) (by_nothing symbol.Vars p n refl)
+vars_read p n no_var = rows_as (ap (λ k. node.Names k ∷ []) (none_more n)) (by_nothing symbol.Vars p n refl)
 vars_read p n (var_more {t} {name} {names} e h) =
     rows_as (ap (λ ns. ns ++ ((counted named names).nodes ++ node.Names ((n + 1) + (counted named names).count) ∷ [])) (name_put t e.kind refl) ∙ ap (λ k. named (name_at t name) ++ ((counted named names).nodes ++ node.Names k ∷ [])) (counts n (counted named names).count))
     (by_head symbol.Vars p n (if_true (fits kind.Var t) _ _ (var_fits t e)) (vars_read t.place (n + 1) h))

@@ -18,7 +18,7 @@ use Rattle.hb_read_declarations.specs.Nodes.{named, counted, number_of, bit_part
 use Rattle.hb_read_declarations.specs.Readers.{Out}
 use Rattle.hb_read_declarations.proofs.Known.{if_true}
 use Rattle.hb_read_declarations.proofs.Lists.{Several, nothing_more, a_thing, Behind, behind as behind_mark, HeadTail, head_tail, head_of}
-use Rattle.hb_read_declarations.proofs.Plain.{IsBar, bit_parts_back, bit_cons_back}
+use Rattle.hb_read_declarations.proofs.Parts.{IsBar, bit_parts_back, bit_cons_back}
 use Rattle.hb_read_program.specs.Rules.{head, heads, found, fits, item, closing, width_in, bits_in}
 use Rattle.hb_read_program.specs.declared.symbol.Kind.TheVariants as kind
 use Rattle.hb_read_program.specs.declared.symbol.Put.TheVariants as put
@@ -28,9 +28,10 @@ use Rattle.hb_read_program.specs.declared.symbol.Count.TheVariants as count
 use Rattle.hb_read_program.specs.declared.symbol.Form.TheVariants as form
 use Rattle.hb_read_program.specs.declared.symbol.Production.TheVariants as production
 use Rattle.hb_read_program.specs.Frames.{waits}
+use Rattle.hb_read_program.proofs.Counting.{none_more, counts}
 use Rattle.hb_read_program.proofs.Finishes.{Rows, rows_as}
 use Rattle.hb_read_program.proofs.Reading.{by_head, by_nothing, a_con, a_word, a_mark, con_fits, word_fits, name_put}
-use Rattle.hb_read_program.proofs.ReadingLists.{found_at, Puts, things_read, counts, none_more}
+use Rattle.hb_read_program.proofs.ReadingLists.{found_at, Puts, things_read}
 use Rattle.hb_read_program.proofs.ReadingDecls.{DeclPuts, three_closed}
 use Rattle.hb_read_program.proofs.ReadingParts.{size_read}
 use Rattle.hb_read_program.proofs.ReadingFields.{row_from, var_token, var_there, fields_read, by_fields}

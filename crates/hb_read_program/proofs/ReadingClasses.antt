@@ -24,7 +24,7 @@ use Rattle.hb_read_declarations.specs.Worths.{kind_word, this_word}
 use Rattle.hb_read_declarations.proofs.Known.{some_none, if_true, if_false}
 use Rattle.hb_read_declarations.proofs.WorthLaws.{var_is, con_is, word_is}
 use Rattle.hb_read_declarations.proofs.Lists.{made, head_of}
-use Rattle.hb_read_declarations.proofs.Blocked.{depend_list_back}
+use Rattle.hb_read_declarations.proofs.Parts.{depend_list_back}
 use Rattle.hb_read_program.specs.Rules.{heads, fits}
 use Rattle.hb_read_program.specs.declared.symbol.Kind.TheVariants as kind
 use Rattle.hb_read_program.specs.declared.symbol.Symbol.TheVariants as symbol
@@ -32,7 +32,7 @@ use Rattle.hb_read_program.specs.declared.symbol.Things.TheVariants as things
 use Rattle.hb_read_program.specs.declared.symbol.Form.TheVariants as form
 use Rattle.hb_read_program.specs.Frames.{a_context, waits, reads_class, turn_to, Heading, first_heading, next_heading, heading_moved, context_moved, still_class, class_turn}
 use Rattle.hb_read_program.specs.declared.side.Heading.TheVariants as heading
-use Rattle.hb_read_program.proofs.Fits.{context_fine}
+use Rattle.hb_read_declarations.proofs.Typing.{a_context_known}
 use Rattle.hb_read_program.proofs.Finishes.{Rows, rows_as, class_row, still_names, names_nothing}
 use Rattle.hb_read_program.proofs.Reading.{by_head, by_nothing, a_con, a_word, var_fits, mark_fits, name_put, vars_read}
 use Rattle.hb_read_program.proofs.ReadingLists.{found_at, Puts, things_read}
@@ -91,7 +91,7 @@ class_top p n (row_turn {n = m} e d) = row_turn {n = m} e d
 head_read : (p : Place) (n : ℕ) {s : Token} {ts us vs : List Token} {ps : List PredExpr} {name : Name} {v : NameAt} {ns : List NameAt} → ReadsSupers ts ps (s ∷ us) → IsCon name s → ReadsVars us (v ∷ ns) vs → Rows (waits symbol.ClassHead p n ∷ []) ts (typed (context_nodes ps) ++ (named (name_at s name) ++ names_of (v ∷ ns))) vs
 head_read p n grammar.no_supers d h = class_top p n (bare_row (Some a_context.start) d h)
 head_read p n (grammar.supers {t} {ps} g e) d h =
-    class_top p n (class_row t heading.Before (context_fine.exact.complete (made ps g)) (ap is_some (word_is t e)) (rows (a_con t.place 0 d) (some_vars_read t.place 0 h)))
+    class_top p n (class_row t heading.Before (a_context_known.exact.complete (made ps g)) (ap is_some (word_is t e)) (rows (a_con t.place 0 d) (some_vars_read t.place 0 h)))
 
 -- varid+ "->" varid+
 depend_row : (p : Place) (n : ℕ) {ts us vs : List Token} {t : Token} {a b : NameAt} {from to : List NameAt} → ReadsVars ts (a ∷ from) (t ∷ us) → IsWord word.RightArrow t → ReadsVars us (b ∷ to) vs → Rows (waits symbol.Depend p n ∷ []) ts (names_of (a ∷ from) ++ (names_of (b ∷ to) ++ node.Depend ∷ [])) vs

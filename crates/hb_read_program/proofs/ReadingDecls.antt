@@ -1,5 +1,5 @@
 -- What the grammar says is what the table says: names with a comma between, a data type, and the block of declarations.
-use Rattle.std.proofs.Common.{◌≡◌, ℕ, ◌+◌, List, [], ◌∷◌, ◌++◌, refl, sym, ap, ◌∙◌, append_assoc, arith}
+use Rattle.std.proofs.Common.{◌≡◌, ℕ, ◌+◌, List, [], ◌∷◌, ◌++◌, refl, sym, ap, ◌∙◌, append_assoc}
 use Rattle.hb_base.specs.declared.name.Name.{Name}
 use Rattle.hb_base.specs.declared.place.Place.{Place}
 use Rattle.hb_tokens.specs.declared.token.Token.{Token}
@@ -18,12 +18,13 @@ use Rattle.hb_read_declarations.specs.declared.node.DeclNode.TheVariants as node
 use Rattle.hb_read_declarations.specs.Nodes.{named, counted, names_of, data_con_of, decl_nodes}
 use Rattle.hb_read_declarations.specs.Readers.{Out}
 use Rattle.hb_read_declarations.proofs.Lists.{head_of}
-use Rattle.hb_read_declarations.proofs.Smaller.{NameRead, names_back}
+use Rattle.hb_read_declarations.proofs.Names.{NameRead, names_back}
 use Rattle.hb_read_program.specs.Rules.{heads}
 use Rattle.hb_read_program.specs.declared.symbol.Symbol.TheVariants as symbol
 use Rattle.hb_read_program.specs.declared.symbol.Things.TheVariants as things
 use Rattle.hb_read_program.specs.declared.symbol.Form.TheVariants as form
 use Rattle.hb_read_program.specs.Frames.{waits}
+use Rattle.hb_read_program.proofs.Counting.{none_plus, none_more, one_more, counts}
 use Rattle.hb_read_program.proofs.Finishes.{Rows, rows_as}
 use Rattle.hb_read_program.proofs.Reading.{by_head, by_nothing, a_con, a_word, mark_fits, vars_read}
 use Rattle.hb_read_program.proofs.ReadingLists.{found_at, Puts, things_read, name_read, data_cons_read}
@@ -42,9 +43,6 @@ DeclPuts d ts us = (p : Place) (n : ℕ) (ms : Out) (vs : List Token) → ((q : 
 pub three_closed : (a b c d ms : Out) → a ++ (b ++ (c ++ (d ++ ms))) ≡ ((a ++ (b ++ c)) ++ d) ++ ms
 three_closed a b c d ms = sym (append_assoc (a ++ (b ++ c)) d ms ∙ (append_assoc a (b ++ c) (d ++ ms) ∙ ap (λ xs. a ++ xs) (append_assoc b c (d ++ ms))))
 
-none_plus : (n : ℕ) → 0 + n ≡ n
-none_plus n = omega arith
-
 params_read : (p : Place) {ts us : List Token} {ns : List NameAt} → ReadsVars ts ns us → Rows (waits symbol.Vars p 0 ∷ []) ts (names_of ns) us
 params_read p {ns} h = rows_as (ap (λ k. (counted named ns).nodes ++ node.Names k ∷ []) (none_plus (counted named ns).count)) (vars_read p 0 h)
 
@@ -55,15 +53,6 @@ data_puts {t} {s} {name} {params} {cons} d e h f g p n ms vs after =
     (rows (a_con t.place 0 e) (rows (params_read t.place h) (rows (a_word word.Equals t.place 0 f) (rows (data_cons_read t.place t.place 0 g) (rows (by_nothing (symbol.Close form.Data) t.place 0 refl) (after t.place)))))))
 
 -- block(top) without its `{`
-
-pub one_more : (n : ℕ) → n + 1 ≡ n + (1 + 0)
-one_more n = omega arith
-
-counts : (a b : ℕ) → (a + 1) + b ≡ a + (1 + b)
-counts a b = omega arith
-
-none_more : (n : ℕ) → n ≡ n + 0
-none_more n = omega arith
 
 pub decls_read : ((ts us : List Token) (d : Decl) → ReadsDecl ts d us → DeclPuts d ts us) → (p : Place) (n : ℕ) {ts us : List Token} {ds : List Decl} → ReadsDecls ts ds us → Rows (waits symbol.Tops p n ∷ []) ts ((counted decl_nodes ds).nodes ++ node.Program (n + (counted decl_nodes ds).count) ∷ []) us
 decls_read puts p n (grammar.no_decl {t} e) = rows_as (ap (λ k. node.Program k ∷ []) (none_more n)) (by_head symbol.Tops p n (found_at (heads symbol.Tops) t e) row_end)

@@ -18,7 +18,7 @@ use Rattle.hb_read_declarations.specs.Nodes.{named, counted, type_of, fields_of}
 use Rattle.hb_read_declarations.specs.Readers.{Out}
 use Rattle.hb_read_declarations.proofs.Leaves.{VarRead, var_read}
 use Rattle.hb_read_declarations.proofs.Lists.{Several, Behind, HeadTail, head_tail, head_of}
-use Rattle.hb_read_declarations.proofs.Smaller.{field_names_back}
+use Rattle.hb_read_declarations.proofs.Names.{field_names_back}
 use Rattle.hb_read_program.specs.Rules.{Symbol, Item, head, heads, found, fits, behind}
 use Rattle.hb_read_program.specs.declared.symbol.Production.{Production}
 use Rattle.hb_read_program.specs.declared.symbol.Kind.TheVariants as kind

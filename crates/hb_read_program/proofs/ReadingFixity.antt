@@ -1,7 +1,5 @@
 -- What the grammar says of a fixity, the table says.
-use Rattle.std.proofs.Common.{◌≡◌, ℕ, ◌≤◌, Bool, true, false, cond, List, [], ◌∷◌, ◌++◌, Some, is_some, refl, ap, ◌∙◌, arith}
-use Rattle.std.specs.Prelude.{nat_le}
-use Rattle.std.proofs.lemmas.Bool.Decides.{nat_tests}
+use Rattle.std.proofs.Common.{◌≡◌, ℕ, ◌≤◌, List, [], ◌∷◌, ◌++◌, Some, is_some, refl, ap, ◌∙◌}
 use Rattle.hb_base.specs.declared.place.Place.{Place}
 use Rattle.hb_tokens.specs.declared.token.Token.{Token}
 use Rattle.hb_tree.specs.declared.types.NameAt.{NameAt}
@@ -21,18 +19,12 @@ use Rattle.hb_read_program.specs.declared.symbol.Symbol.TheVariants as symbol
 use Rattle.hb_read_program.specs.declared.symbol.Form.TheVariants as form
 use Rattle.hb_read_program.specs.declared.symbol.Production.TheVariants as production
 use Rattle.hb_read_program.specs.Frames.{waits}
+use Rattle.hb_read_program.proofs.Counting.{digit_small}
 use Rattle.hb_read_program.proofs.Finishes.{Rows, rows_as}
 use Rattle.hb_read_program.proofs.Reading.{by_head, by_nothing}
 use Rattle.hb_read_program.proofs.ReadingLists.{found_at}
 use Rattle.hb_read_program.proofs.ReadingDecls.{DeclPuts}
 use Rattle.hb_read_program.proofs.ReadingParts.{infixes_read}
-
-digit_small : (k : ℕ) → k ≤ 9 → digit_in k ≡ k
-digit_small k h = by_test (nat_le k 9) refl
-  where
-    by_test : (b : Bool) → nat_le k 9 ≡ b → cond b k 9 ≡ k
-    by_test true e = refl
-    by_test false e = grind (arith, nat_tests, e, h)
 
 fix_found : (fix : Fix) (t : Token) → IsWord (fix_word fix) t → found (heads symbol.Tops) t ≡ Some (mute (kind.Word (fix_word fix)) (production.Fixity fix))
 fix_found Left t e = found_at (heads symbol.Tops) t e

@@ -1,5 +1,5 @@
 -- What the grammar says is what the table says: initialisers of areas.
-use Rattle.std.proofs.Common.{◌≡◌, ℕ, ◌+◌, List, [], ◌∷◌, ◌++◌, Option, refl, sym, ap, subst, ◌∙◌, append_assoc, arith}
+use Rattle.std.proofs.Common.{◌≡◌, ℕ, ◌+◌, List, [], ◌∷◌, ◌++◌, Option, refl, sym, ap, subst, ◌∙◌, append_assoc}
 use Rattle.hb_base.specs.declared.name.Name.{Name}
 use Rattle.hb_base.specs.declared.place.Place.{Place}
 use Rattle.hb_tokens.specs.declared.token.Token.{Token}
@@ -17,25 +17,17 @@ use Rattle.hb_read_declarations.specs.Nodes.{named, fields_count, init_nodes, fi
 use Rattle.hb_read_declarations.specs.Readers.{Out}
 use Rattle.hb_read_declarations.proofs.Known.{if_true}
 use Rattle.hb_read_declarations.proofs.Lists.{made}
-use Rattle.hb_read_declarations.proofs.InitExact.{expr_of}
+use Rattle.hb_read_declarations.proofs.ExprTokens.{expr_of}
 use Rattle.hb_read_program.specs.Rules.{heads, fits, closing}
 use Rattle.hb_read_program.specs.declared.symbol.Kind.TheVariants as kind
 use Rattle.hb_read_program.specs.declared.symbol.Symbol.TheVariants as symbol
 use Rattle.hb_read_program.specs.declared.symbol.Leaf.TheVariants as leaf
 use Rattle.hb_read_program.specs.declared.symbol.Form.TheVariants as form
 use Rattle.hb_read_program.specs.Frames.{waits}
+use Rattle.hb_read_program.proofs.Counting.{none_plus, one_more, counts}
 use Rattle.hb_read_program.proofs.Finishes.{Rows, rows_as, LeafBegun, leaf_begun, leaf_symbol}
 use Rattle.hb_read_program.proofs.Reading.{by_head, by_nothing, a_var, a_word, a_mark, var_fits, name_put}
 use Rattle.hb_read_program.proofs.ReadingLists.{found_at}
-
-one_more : (n : ℕ) → n + 1 ≡ n + (1 + 0)
-one_more n = omega arith
-
-counts : (a b : ℕ) → (a + 1) + b ≡ a + (1 + b)
-counts a b = omega arith
-
-none_plus : (n : ℕ) → 0 + n ≡ n
-none_plus n = omega arith
 
 -- an expression
 cell_then : (p : Place) (n : ℕ) {ts us : List Token} (e : Expr) → LeafBegun leaf.Expr symbol.Init p n (closing form.InitCell ∷ []) ts (expr_of e) us → Rows (waits symbol.Init p n ∷ []) ts (init_nodes (Cell (first_place ts) e)) us

@@ -23,7 +23,7 @@ use Rattle.hb_read_declarations.specs.declared.node.DeclNode.TheVariants as node
 use Rattle.hb_read_declarations.specs.Nodes.{named, counted, type_of, pred_of, bind_of}
 use Rattle.hb_read_declarations.specs.Readers.{Out}
 use Rattle.hb_read_declarations.proofs.Lists.{made, head_of, Block, no_thing, empty_thing, last_in, more_in}
-use Rattle.hb_read_declarations.proofs.Blocked.{preds_back}
+use Rattle.hb_read_declarations.proofs.Parts.{preds_back}
 use Rattle.hb_read_declarations.proofs.Equations.{EquationRead, binds_back}
 use Rattle.hb_read_program.specs.Rules.{heads, item}
 use Rattle.hb_read_program.specs.declared.symbol.Kind.TheVariants as kind
@@ -34,10 +34,11 @@ use Rattle.hb_read_program.specs.declared.symbol.Count.TheVariants as count
 use Rattle.hb_read_program.specs.declared.symbol.Leaf.TheVariants as leaf
 use Rattle.hb_read_program.specs.declared.symbol.Form.TheVariants as form
 use Rattle.hb_read_program.specs.Frames.{waits}
+use Rattle.hb_read_program.proofs.Counting.{none_plus, none_more, one_more, counts}
 use Rattle.hb_read_program.proofs.Finishes.{Rows, rows_as, LeafBegun, leaf_begun, leaf_symbol}
 use Rattle.hb_read_program.proofs.Reading.{by_head, by_nothing, a_con, a_mark, mark_fits}
-use Rattle.hb_read_program.proofs.ReadingLists.{found_at, Puts, things_read, atypes_read, counts, none_more, none_plus}
-use Rattle.hb_read_program.proofs.ReadingDecls.{DeclPuts, one_more}
+use Rattle.hb_read_program.proofs.ReadingLists.{found_at, Puts, things_read, atypes_read}
+use Rattle.hb_read_program.proofs.ReadingDecls.{DeclPuts}
 use Rattle.hb_read_program.proofs.ReadingParts.{leaf_read}
 use Rattle.hb_read_program.proofs.ReadingArea.{four_closed}
 

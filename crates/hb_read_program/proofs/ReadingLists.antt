@@ -1,5 +1,5 @@
 -- What the grammar says is what the table says: several things with a mark between, and a data type.
-use Rattle.std.proofs.Common.{◌≡◌, ℕ, ◌+◌, true, List, [], ◌∷◌, ◌++◌, refl, sym, ap, ◌∙◌, append_assoc, arith}
+use Rattle.std.proofs.Common.{◌≡◌, ℕ, ◌+◌, true, List, [], ◌∷◌, ◌++◌, refl, sym, ap, ◌∙◌, append_assoc}
 use Rattle.hb_base.specs.declared.name.Name.{Name}
 use Rattle.hb_base.specs.declared.place.Place.{Place}
 use Rattle.hb_tokens.specs.declared.token.Token.{Token}
@@ -20,7 +20,7 @@ use Rattle.hb_read_declarations.specs.Nodes.{named, counted, type_of, data_con_o
 use Rattle.hb_read_declarations.specs.Readers.{Out}
 use Rattle.hb_read_declarations.proofs.Known.{if_true}
 use Rattle.hb_read_declarations.proofs.Lists.{made, Several, nothing_more, a_thing, Behind, behind as behind_mark, HeadTail, head_tail, head_of}
-use Rattle.hb_read_declarations.proofs.Plain.{DataConRead, data_con, data_cons_back}
+use Rattle.hb_read_declarations.proofs.Parts.{DataConRead, data_con, data_cons_back}
 use Rattle.hb_read_program.specs.Rules.{Symbol, Head, Things, heads, between, thing, things_form, fits, found, node_of, name_in, item}
 use Rattle.hb_read_program.specs.declared.symbol.Kind.TheVariants as kind
 use Rattle.hb_read_program.specs.declared.symbol.Put.TheVariants as put
@@ -30,6 +30,7 @@ use Rattle.hb_read_program.specs.declared.symbol.Count.TheVariants as count
 use Rattle.hb_read_program.specs.declared.symbol.Leaf.TheVariants as leaf
 use Rattle.hb_read_program.specs.declared.symbol.Form.TheVariants as form
 use Rattle.hb_read_program.specs.Frames.{waits}
+use Rattle.hb_read_program.proofs.Counting.{none_plus, none_more, counts}
 use Rattle.hb_read_program.proofs.Finishes.{Rows, rows_as, LeafBegun, leaf_begun, leaf_symbol}
 use Rattle.hb_read_program.proofs.Reading.{by_head, by_nothing, a_token, var_fits, con_fits, op_fits, word_fits, name_put, a_mark}
 
@@ -57,15 +58,6 @@ things_node_is things.BitCons p n = refl
 things_node_is things.StructParts p n = refl
 things_node_is things.Depends p n = refl
 things_node_is things.Preds p n = refl
-
-pub none_more : (n : ℕ) → n ≡ n + 0
-none_more n = omega arith
-
-pub none_plus : (n : ℕ) → 0 + n ≡ n
-none_plus n = omega arith
-
-pub counts : (a b : ℕ) → (a + 1) + b ≡ a + (1 + b)
-counts a b = omega arith
 
 -- what is asked of the things
 abbrev pub Puts : {A : Type 0} → Symbol → (List Token → A → List Token → Type 0) → (A → Out) → Type 0

@@ -16,7 +16,7 @@ use Rattle.hb_read_declarations.specs.Nodes.{named, names_of, number_of, type_of
 use Rattle.hb_read_declarations.specs.Readers.{Out}
 use Rattle.hb_read_declarations.proofs.Known.{if_true}
 use Rattle.hb_read_declarations.proofs.Lists.{made, head_of}
-use Rattle.hb_read_declarations.proofs.Smaller.{InfixRead, infixes_back}
+use Rattle.hb_read_declarations.proofs.Names.{InfixRead, infixes_back}
 use Rattle.hb_read_program.specs.Rules.{Leaf, heads, fits}
 use Rattle.hb_read_program.specs.declared.symbol.Kind.TheVariants as kind
 use Rattle.hb_read_program.specs.declared.symbol.Symbol.TheVariants as symbol

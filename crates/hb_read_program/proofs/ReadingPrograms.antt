@@ -16,9 +16,10 @@ use Rattle.hb_read_program.specs.declared.symbol.Kind.TheVariants as kind
 use Rattle.hb_read_program.specs.declared.symbol.Put.TheVariants as put
 use Rattle.hb_read_program.specs.declared.symbol.Symbol.TheVariants as symbol
 use Rattle.hb_read_program.specs.Frames.{program_start}
+use Rattle.hb_read_program.proofs.Counting.{none_plus}
 use Rattle.hb_read_program.proofs.Finishes.{Rows, rows_as}
 use Rattle.hb_read_program.proofs.Reading.{by_head, a_token}
-use Rattle.hb_read_program.proofs.ReadingLists.{found_at, none_plus}
+use Rattle.hb_read_program.proofs.ReadingLists.{found_at}
 use Rattle.hb_read_program.proofs.ReadingDecls.{DeclPuts, data_puts, decls_read}
 use Rattle.hb_read_program.proofs.ReadingFixity.{fixity_puts}
 use Rattle.hb_read_program.proofs.ReadingArea.{area_puts}

@@ -1,5 +1,5 @@
 -- The names of a signature are read beside an equation, whatever the equation's state is.
-use Rattle.std.proofs.Common.{◌≡◌, ℕ, suc, ◌+◌, List, [], ◌∷◌, ◌++◌, Option, Some, None, is_some, refl, sym, ap, subst, ◌∙◌, append_assoc, arith}
+use Rattle.std.proofs.Common.{◌≡◌, ℕ, ◌+◌, List, [], ◌∷◌, ◌++◌, Option, Some, None, is_some, refl, sym, ap, subst, ◌∙◌, append_assoc}
 use Rattle.hb_base.specs.declared.name.Name.{Name}
 use Rattle.hb_base.specs.declared.place.Place.{Place}
 use Rattle.hb_tokens.specs.declared.token.Token.{Token}
@@ -27,12 +27,11 @@ use Rattle.hb_read_program.specs.declared.symbol.Leaf.TheVariants as leaf
 use Rattle.hb_read_program.specs.Frames.{waits, reads_line, turn_to, frames_of, Side, Spot, spot_if, name_spot, operator_spot, close_spot, comma_if, side_moved, side_start, first_at, sig_behind, sig_turn, sig_if, expr_moved, or_line, still_line, begun_line, head_turn}
 use Rattle.hb_read_program.specs.declared.side.Side.TheVariants as side
 use Rattle.hb_read_program.specs.declared.side.Spot.TheVariants as spot
+use Rattle.hb_read_program.proofs.Counting.{none_plus, one_more, counts, next_suc}
 use Rattle.hb_read_program.proofs.TableLaws.{leaf_known}
 use Rattle.hb_read_program.proofs.Fits.{an_eq, line_of}
 use Rattle.hb_read_program.proofs.Turns.{line_first}
 use Rattle.hb_read_program.proofs.Finishes.{Rows, rows_as, no_head}
-use Rattle.hb_read_program.proofs.ReadingLists.{counts, none_plus}
-use Rattle.hb_read_program.proofs.ReadingDecls.{one_more}
 use Rattle.hb_read_program.proofs.ReadingFields.{row_from}
 
 -- names that are read stay, whatever the equation's state is
@@ -81,9 +80,6 @@ colons_then e p k out n {t} d h =
 abbrev names_at : ℕ → Place → List NameAt → Place
 names_at k p [] = p
 names_at k p (n ∷ ns) = first_at k p n
-
-next_suc : (k : ℕ) → k + 1 ≡ suc k
-next_suc k = omega arith
 
 later_at : (k : ℕ) (p : Place) (ns : List NameAt) → names_at (k + 1) p ns ≡ p
 later_at k p [] = refl

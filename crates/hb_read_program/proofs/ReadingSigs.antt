@@ -22,7 +22,7 @@ use Rattle.hb_read_declarations.specs.Nodes.{named, names_of, counted, typed, si
 use Rattle.hb_read_declarations.specs.Readers.{Out}
 use Rattle.hb_read_declarations.proofs.Known.{if_true}
 use Rattle.hb_read_declarations.proofs.Lists.{made, HeadTail, head_tail, head_of}
-use Rattle.hb_read_declarations.proofs.Smaller.{NameRead, names_back}
+use Rattle.hb_read_declarations.proofs.Names.{NameRead, names_back}
 use Rattle.hb_read_declarations.proofs.Typing.{Qualified}
 use Rattle.hb_read_program.specs.Rules.{head, heads, found, fits, name_in}
 use Rattle.hb_read_program.specs.declared.symbol.Kind.TheVariants as kind
@@ -33,10 +33,11 @@ use Rattle.hb_read_program.specs.declared.symbol.Leaf.TheVariants as leaf
 use Rattle.hb_read_program.specs.declared.symbol.Form.TheVariants as form
 use Rattle.hb_read_program.specs.declared.symbol.Production.TheVariants as production
 use Rattle.hb_read_program.specs.Frames.{Frame, waits}
+use Rattle.hb_read_program.proofs.Counting.{none_plus, none_more, one_more, counts}
 use Rattle.hb_read_program.proofs.Finishes.{Rows, rows_as}
 use Rattle.hb_read_program.proofs.Reading.{by_head, by_nothing, a_token, a_word, a_mark, op_fits, mark_fits, name_put}
-use Rattle.hb_read_program.proofs.ReadingLists.{found_at, more_read, counts, none_more, none_plus}
-use Rattle.hb_read_program.proofs.ReadingDecls.{DeclPuts, names_of_name, one_more}
+use Rattle.hb_read_program.proofs.ReadingLists.{found_at, more_read}
+use Rattle.hb_read_program.proofs.ReadingDecls.{DeclPuts, names_of_name}
 use Rattle.hb_read_program.proofs.ReadingParts.{leaf_read}
 use Rattle.hb_read_program.proofs.ReadingFields.{var_token, var_there}
 use Rattle.hb_read_program.proofs.ReadingSides.{name_first, sig_line}

@@ -16,7 +16,7 @@ use Rattle.hb_read_declarations.specs.Nodes.{named, counted, number_of, struct_p
 use Rattle.hb_read_declarations.proofs.Known.{if_true}
 use Rattle.hb_read_declarations.proofs.WorthLaws.{this_con_is}
 use Rattle.hb_read_declarations.proofs.Lists.{head_of}
-use Rattle.hb_read_declarations.proofs.Plain.{struct_parts_back}
+use Rattle.hb_read_declarations.proofs.Parts.{struct_parts_back}
 use Rattle.hb_read_program.specs.Rules.{head, heads, found, fits, closing, number_in}
 use Rattle.hb_read_program.specs.declared.symbol.Kind.TheVariants as kind
 use Rattle.hb_read_program.specs.declared.symbol.Put.TheVariants as put

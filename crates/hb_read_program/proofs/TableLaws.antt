@@ -14,19 +14,16 @@ use Rattle.hb_read_declarations.specs.Exactly.{Made}
 use Rattle.hb_read_declarations.specs.Readers.{Out}
 use Rattle.hb_read_declarations.specs.Worths.{var, con, op, this_con, this_op, this_word, mark, number, digit, bits, end_of}
 use Rattle.hb_read_declarations.proofs.Known.{Known, some_is, some_place, true_false, or_cases, or_left, or_right, equal_is, apart_is}
-use Rattle.hb_read_declarations.proofs.WorthLaws.{var_code, con_code, op_code, this_con_code, this_op_code, word_is_code, mark_code, number_code, digit_code, bits_code}
-use Rattle.hb_read_declarations.proofs.Program.{end_code}
-use Rattle.hb_read_declarations.proofs.Typing.{type_fine, atype_fine, pred_fine, QualifiedRead}
-use Rattle.hb_read_declarations.proofs.Blocked.{qualified_of, qualified_fine}
-use Rattle.hb_read_declarations.proofs.Equations.{EquationRead, equation_fine, inside}
+use Rattle.hb_read_declarations.proofs.WorthLaws.{var_code, con_code, op_code, this_con_code, this_op_code, word_is_code, mark_code, number_code, digit_code, bits_code, end_code}
+use Rattle.hb_read_declarations.proofs.Typing.{in_types, in_qualified, a_type_known, an_atype_known, a_pred_known, a_qualified_known, QualifiedRead, qualified_of}
+use Rattle.hb_read_declarations.proofs.Equations.{EquationRead, an_equation_known, inside}
 use Rattle.hb_read_declarations.proofs.EquationTokens.{equation_known}
-use Rattle.hb_read_declarations.proofs.InitExact.{Exprs}
+use Rattle.hb_read_declarations.proofs.ExprTokens.{Exprs, an_expr_known}
 use Rattle.hb_read_program.specs.Rules.{Leaf, Symbol, Kind, Head, Form, behind, nothing_of, fits, found}
 use Rattle.hb_read_program.specs.declared.symbol.Leaf.TheVariants as leaf
 use Rattle.hb_read_program.specs.declared.symbol.Kind.TheVariants as kind
 use Rattle.hb_read_program.specs.Frames.{leaf_reader, put_nothing}
 use Rattle.hb_read_program.specs.Sets.{kind_code, leaf_first, leaf_follow, head_codes, is_nothing, within, only_if, row_keeps, heads_keep}
-use Rattle.hb_read_program.proofs.LeafExpr.{leaf_expr_known}
 
 -- the readers of their own
 
@@ -39,20 +36,20 @@ LeafReads leaf.Expr = Exprs
 LeafReads leaf.Equation = Made EquationRead bind_of
 
 abbrev leaf_uses : Leaf → ℕ → Bool
-leaf_uses leaf.Type = type_fine.uses
-leaf_uses leaf.Atype = atype_fine.uses
-leaf_uses leaf.Pred = pred_fine.uses
-leaf_uses leaf.Qualified = qualified_fine.uses
+leaf_uses leaf.Type = in_types
+leaf_uses leaf.Atype = in_types
+leaf_uses leaf.Pred = in_types
+leaf_uses leaf.Qualified = in_qualified
 leaf_uses leaf.Expr = inside
 leaf_uses leaf.Equation = inside
 
 pub leaf_known : (l : Leaf) → Known (leaf_reader l) (LeafReads l) false (leaf_first l) (λ c. member c (leaf_follow l)) (leaf_uses l)
-leaf_known leaf.Type = type_fine.known
-leaf_known leaf.Atype = atype_fine.known
-leaf_known leaf.Pred = pred_fine.known
-leaf_known leaf.Qualified = qualified_fine.known
-leaf_known leaf.Expr = leaf_expr_known pat_start
-leaf_known leaf.Equation = (equation_fine pat_start (equation_known pat_start)).known
+leaf_known leaf.Type = a_type_known
+leaf_known leaf.Atype = an_atype_known
+leaf_known leaf.Pred = a_pred_known
+leaf_known leaf.Qualified = a_qualified_known
+leaf_known leaf.Expr = an_expr_known pat_start
+leaf_known leaf.Equation = an_equation_known pat_start (equation_known pat_start)
 
 -- the code of a token that fits
 

@@ -15,6 +15,7 @@ use Rattle.hb_read_declarations.specs.Readers.{Out}
 use Rattle.hb_read_declarations.specs.Worths.{this_word}
 use Rattle.hb_read_declarations.proofs.Known.{some_is, some_place, some_none, true_false, apart_is, member_left, member_right, none_is}
 use Rattle.hb_read_declarations.proofs.WorthLaws.{word_is_code}
+use Rattle.hb_read_declarations.proofs.Typing.{a_context_known}
 use Rattle.hb_read_program.specs.Rules.{Leaf, Symbol, Item, Head, Form, Begins, no_leaf, begins, begins_line, begins_class, heads, behind, begins_with, nothing_of, found}
 use Rattle.hb_read_program.specs.declared.symbol.Leaf.TheVariants as leaf
 use Rattle.hb_read_program.specs.Frames.{LeafState, leaf_reader, a_context, Frame, reads, reads_line, reads_class, ATurn, turn_to, frames_of, place_of, Side, Heading, side_moved, side_start, first_at, sig_behind, expr_moved, line_turn, line_nothing, heading_moved, context_moved, context_whole, begun, begun_line, leaf_turn, head_turn, frame_turn, put_nothing, frame_nothing, rules}
@@ -22,7 +23,9 @@ use Rattle.hb_read_program.specs.declared.side.Heading.TheVariants as heading
 use Rattle.hb_read_program.specs.Sets.{type_codes, equation_codes, going_codes, line_follow, class_follow, leaf_follow, head_codes, begin_codes, first, follow, is_nothing, all_nothing, also_codes, item_firsts, within, only_if, may_stand, row_keeps, heads_keep, leaf_keeps, apart_heads}
 use Rattle.hb_read_program.proofs.Checked.{table_keeps}
 use Rattle.hb_read_program.proofs.TableLaws.{leaf_known, found_code, found_keeps, both_left, both_right, within_is, only_is, nothing_is}
-use Rattle.hb_read_program.proofs.Fits.{an_eq, context_fine, Side_live, gone_side, live_side, Fit, fit_waits, fit_reads, fit_line, fit_class, frame_first, frame_follow, code_in, start_code, side_code, sig_code, SigTurn, sig_at, sig_of, side_lives, heading_lives, LineTurn, line_sig, line_still, line_of, class_items, ClassTurn, class_arrow, class_still, class_of, heading_code, context_code}
+use Rattle.hb_read_program.proofs.Fits.{an_eq, Side_live, gone_side, live_side, Fit, fit_waits, fit_reads, fit_line, fit_class, frame_first, frame_follow}
+use Rattle.hb_read_program.proofs.Fits.{code_in, start_code, side_code, sig_code, SigTurn, sig_at, sig_of, side_lives, heading_lives, LineTurn, line_sig}
+use Rattle.hb_read_program.proofs.Fits.{line_still, line_of, class_items, ClassTurn, class_arrow, class_still, class_of, heading_code, context_code}
 
 -- which tokens a symbol may begin with
 
@@ -45,7 +48,7 @@ line_first t n (line_sig e) = cc
 line_first t n (line_still e d) = either_cases (is_some (expr_moved (Some an_eq.start) t)) (side_lives (side_moved side_start t)) e (λ h. eq_first t h) (λ h. start_code t equation_codes refl refl h)
 
 context_null : context_whole (Some a_context.start) ≡ None
-context_null = none_is (a_context.done a_context.start) context_fine.nothing
+context_null = none_is (a_context.done a_context.start) a_context_known.nothing
 
 class_first : (t : Token) (n : ATurn) → ClassTurn (Some a_context.start) heading.Before t n → member (code t) type_codes ≡ true
 class_first t n (class_arrow out d e i) = absurd (some_none e context_null)

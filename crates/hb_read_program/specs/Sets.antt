@@ -102,7 +102,6 @@ follow symbol.SomeAtypes = type_codes
 follow symbol.Size = 3 ∷ []
 follow symbol.Align = 31 ∷ []
 follow symbol.DataCon = type_codes
-follow symbol.FieldDecl = type_codes
 follow symbol.BitPart = type_codes
 follow symbol.StructPart = type_codes
 follow symbol.Start = 47 ∷ going_codes

@@ -142,7 +142,6 @@ pub enum Symbol {
     Size,
     Align,
     DataCon,
-    FieldDecl,
     BitPart,
     /// Parts of a bitdata constructor up to `]`, and the same behind one.
     BitParts,
@@ -212,7 +211,6 @@ pub enum Production {
     FirstVars,
     Number,
     DataCon,
-    FieldDecl,
     BitFields,
     FirstBitPart,
     FirstBitFields,

@@ -1,5 +1,5 @@
--- All that is known of the reader of expressions, where it reads a thing of the table.
-use Rattle.std.proofs.Common.{◌≡◌, ℕ, ◌+◌, Bool, true, false, cond, List, [], Option, Some, is_some, refl, ap}
+-- What the reader of expressions begins with, and all that is known of it.
+use Rattle.std.proofs.Common.{◌≡◌, ℕ, ◌+◌, Bool, true, false, cond, List, [], ◌∷◌, Option, Some, is_some, refl, ap}
 use Rattle.std.specs.Prelude.{◌==◌}
 use Rattle.hb_base.specs.declared.name.Name.{Name}
 use Rattle.hb_base.specs.declared.place.Place.{Place}
@@ -8,6 +8,7 @@ use Rattle.hb_tokens.specs.declared.token.TokenKind.{TokenKind}
 use Rattle.hb_tokens.specs.declared.token.TokenKind.TheVariants as kinds
 use Rattle.hb_tokens.specs.declared.word.Word as words
 use Rattle.hb_tokens.specs.declared.word.Word.TheVariants as word
+use Rattle.hb_tree.specs.Expressions.{Expr}
 use Rattle.hb_grammar.specs.Expressions.{ReadsExpr}
 use Rattle.hb_read_patterns.specs.declared.reader.PatReader.{PatReader}
 use Rattle.hb_read_expressions.specs.declared.node.ExprNode.{ExprNode}
@@ -23,20 +24,22 @@ use Rattle.hb_read_expressions.specs.Outside.{begin as begin_expr}
 use Rattle.hb_read_expressions.proofs.Exactness.{expr_reader_is_exact}
 use Rattle.hb_read_declarations.specs.Codes.{kind_code, code, member}
 use Rattle.hb_read_declarations.specs.Nodes.{valued}
-use Rattle.hb_read_declarations.specs.Readers.{an_expr}
+use Rattle.hb_read_declarations.specs.Readers.{Out, an_expr}
 use Rattle.hb_read_declarations.proofs.Known.{Known, equal_is, known_by}
-use Rattle.hb_read_declarations.proofs.Fine.{worth_known}
+use Rattle.hb_read_declarations.proofs.MappedLaws.{worth_known}
 use Rattle.hb_read_declarations.specs.Exactly.{Made}
-use Rattle.hb_read_declarations.proofs.Lists.{made_again, again_made}
 use Rattle.hb_read_declarations.proofs.Equations.{going_codes, inside}
 use Rattle.hb_read_declarations.proofs.EquationTokens.{equation_ends, equation_takes}
-use Rattle.hb_read_declarations.proofs.InitKnowing.{expr_codes, ExprKnown}
 
 -- what an expression begins with
+abbrev pub expr_codes : List ℕ
+expr_codes = 0 ∷ 2 ∷ 4 ∷ 5 ∷ 100 ∷ 45 ∷ 21 ∷ 26 ∷ 25 ∷ 23 ∷ []
+
 abbrev expr_begun : PatReader → Place → Sort → Option State
 expr_begun pats p x = with_pats pats (begin_expr [] [] p x)
 
-begun_if : {P : Type 0} (pats : PatReader) (p : Place) (b : Bool) (x y : Sort) → is_some (expr_begun pats p (cond b x y)) ≡ true → (b ≡ true → is_some (expr_begun pats p x) ≡ true → P) → (is_some (expr_begun pats p y) ≡ true → P) → P
+begun_if : {P : Type 0} (pats : PatReader) (p : Place) (b : Bool) (x y : Sort) → is_some (expr_begun pats p (cond b x y)) ≡ true →
+    (b ≡ true → is_some (expr_begun pats p x) ≡ true → P) → (is_some (expr_begun pats p y) ≡ true → P) → P
 begun_if pats p true x y e f g = f refl e
 begun_if pats p false x y e f g = g e
 
@@ -94,8 +97,8 @@ expr_nothing : (pats : PatReader) → is_some (done (expr_start pats)) ≡ false
 unfolding done
 expr_nothing pats = refl
 
-read_expr_known : (pats : PatReader) → Known (expr_reader pats) ExprOf false expr_codes (λ c. member c going_codes) inside
-read_expr_known pats = record {
+expr_known : (pats : PatReader) → Known (expr_reader pats) ExprOf false expr_codes (λ c. member c going_codes) inside
+expr_known pats = record {
   exact = expr_reader_is_exact pats;
   begins = λ {r} {t} e. expr_begins pats t e;
   ends = λ {s} {r} {t} h d e. equation_ends s r t d e;
@@ -110,8 +113,13 @@ made_expr : {ts us : List Token} {v : List ExprNode} → Made ReadsExpr expr_nod
 made_expr h = record { expr = h.thing; reads = h.read; is = h.is }
 
 -- the same with the nodes of declarations
-pub leaf_expr_known : (pats : PatReader) → ExprKnown (an_expr pats)
-leaf_expr_known pats = worth_known_by (known_by (λ ts v us h. expr_made h) (λ ts v us h. made_expr h) (read_expr_known pats))
-  where
-    worth_known_by : Known (expr_reader pats) (Made ReadsExpr expr_nodes) false expr_codes (λ c. member c going_codes) inside → ExprKnown (an_expr pats)
-    worth_known_by k = known_by (λ ts v us h. made_again valued h) (λ ts v us h. again_made expr_nodes valued h) (worth_known valued k)
+
+abbrev pub expr_of : Expr → Out
+expr_of e = valued (expr_nodes e)
+
+abbrev pub Exprs : List Token → Out → List Token → Type 0
+Exprs = Made ReadsExpr expr_of
+
+pub an_expr_known : (pats : PatReader) → Known (an_expr pats) Exprs false expr_codes (λ c. member c going_codes) inside
+an_expr_known pats =
+    worth_known expr_nodes valued (known_by (λ ts v us h. expr_made h) (λ ts v us h. made_expr h) (expr_known pats))
