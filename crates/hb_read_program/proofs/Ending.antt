@@ -13,7 +13,7 @@ use Rattle.hb_read_types.specs.declared.context_reader.ContextReader.{ContextRea
 use Rattle.hb_read_expressions.specs.declared.state.State.{State}
 use Rattle.hb_read_declarations.specs.declared.node.DeclNode.{DeclNode}
 use Rattle.hb_read_declarations.specs.Codes.{kind_code, code, member}
-use Rattle.hb_read_declarations.proofs.Blocked.{qualified_fine}
+use Rattle.hb_read_declarations.proofs.Typing.{in_qualified}
 use Rattle.hb_read_declarations.specs.Readers.{Out}
 use Rattle.hb_read_declarations.specs.Worths.{kind_var, kind_con, kind_op, kind_number, kind_bits, kind_word, kind_mark, this_word}
 use Rattle.hb_read_declarations.proofs.Known.{some_is, some_place, true_false, if_false}
@@ -83,7 +83,6 @@ table_before symbol.SomeAtypes e = refl
 table_before symbol.Size e = refl
 table_before symbol.Align e = refl
 table_before symbol.DataCon e = refl
-table_before symbol.FieldDecl e = refl
 table_before symbol.BitPart e = refl
 table_before symbol.BitParts e = refl
 table_before symbol.MoreBitParts e = refl
@@ -235,7 +234,6 @@ no_end symbol.SomeAtypes p n t h e d = by_first symbol.SomeAtypes p n t e refl d
 no_end symbol.Size p n t h e d = by_first symbol.Size p n t e refl d
 no_end symbol.Align p n t h e d = by_first symbol.Align p n t e refl d
 no_end symbol.DataCon p n t h e d = by_first symbol.DataCon p n t e refl d
-no_end symbol.FieldDecl p n t h e d = by_first symbol.FieldDecl p n t e refl d
 no_end symbol.BitPart p n t h e d = by_first symbol.BitPart p n t e refl d
 no_end symbol.BitParts p n t h e d = by_first symbol.BitParts p n t e refl d
 no_end symbol.MoreBitParts p n t h e d = by_first symbol.MoreBitParts p n t e refl d
@@ -261,7 +259,7 @@ leaf_end : (l : Leaf) (t : Token) (s r : LeafState l) → IsEnd t → (leaf_read
 leaf_end leaf.Type t s r e m = not_end t type_codes e refl ((leaf_known leaf.Type).takes m)
 leaf_end leaf.Atype t s r e m = not_end t type_codes e refl ((leaf_known leaf.Atype).takes m)
 leaf_end leaf.Pred t s r e m = not_end t type_codes e refl ((leaf_known leaf.Pred).takes m)
-leaf_end leaf.Qualified t s r e m = true_false ((leaf_known leaf.Qualified).takes m) (ap (λ k. qualified_fine.uses (kind_code k)) e)
+leaf_end leaf.Qualified t s r e m = true_false ((leaf_known leaf.Qualified).takes m) (ap (λ k. in_qualified (kind_code k)) e)
 leaf_end leaf.Expr t s r e m = true_false ((leaf_known leaf.Expr).takes m) (ap (λ k. inside (kind_code k)) e)
 leaf_end leaf.Equation t s r e m = true_false ((leaf_known leaf.Equation).takes m) (ap (λ k. inside (kind_code k)) e)
 

@@ -161,7 +161,6 @@ pub fn found(symbol: Symbol, token: &Token) -> Option<Head>
         Symbol::Size => first(heads![Slash => Nothing, Number;], token),
         Symbol::Align => first(heads![Word(Word::Aligned) => Nothing, Number;], token),
         Symbol::DataCon => first(heads![Con => Name, DataCon;], token),
-        Symbol::FieldDecl => first(heads![Var => Name, FieldDecl;], token),
         Symbol::BitPart => first(BIT_PART, token),
         Symbol::BitParts => first(BIT_PARTS, token),
         Symbol::MoreBitParts => first(MORE_BIT_PARTS, token),

@@ -127,13 +127,6 @@ const INSTANCE: &[Item] = &[
 ];
 
 /// Behind the first name of fields.
-const FIELD_DECL: &[Item] = &[
-    more!(FieldNames),
-    word!(DoubleColon),
-    leaf!(Type),
-    closing!(Fields),
-];
-
 const BIT_FIELDS: &[Item] = &[
     more!(FieldNames),
     word!(DoubleColon),
@@ -285,7 +278,6 @@ pub fn behind(production: Production) -> &'static [Item]
         Production::FirstVars => &[counted!(Vars, One)],
         Production::Number => &[NUMBER],
         Production::DataCon => &[plain!(Atypes), closing!(DataCon)],
-        Production::FieldDecl => FIELD_DECL,
         Production::BitFields => BIT_FIELDS,
         Production::FirstBitPart => &[counted!(MoreBitParts, One)],
         Production::FirstBitFields => FIRST_BIT_FIELDS,
