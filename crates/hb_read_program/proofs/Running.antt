@@ -1,5 +1,5 @@
 -- How the parts of the reader of programs make a move of its machine.
-use Rattle.std.proofs.Common.{◌≡◌, refl, sym, ap, ◌∙◌, ℕ, ◌+◌, ◌<◌, ◌≤◌, Bool, true, false, List, [], ◌∷◌, ◌++◌, length, append_assoc, add-one, arith}
+use Rattle.std.proofs.Common.{◌≡◌, refl, sym, ap, ◌∙◌, ℕ, ◌<◌, true, false, List, [], ◌∷◌, ◌++◌, length, arith}
 use Rattle.std.specs.Prelude.{Option, Some, None}
 use Rattle.hb_base.specs.declared.place.Place.{Place}
 use Rattle.hb_tokens.specs.declared.token.Token.{Token}
@@ -7,10 +7,10 @@ use Rattle.hb_engine.specs.Tables.{Thread, thread, turned, moved, whole, put_beh
 use Rattle.hb_read_declarations.specs.declared.node.DeclNode.{DeclNode}
 use Rattle.hb_read_declarations.specs.Readers.{Out}
 use Rattle.hb_read_program.specs.Rules.{Leaf, Item}
-use Rattle.hb_read_program.specs.Frames.{Frame, waits, reads, ATurn, turn_to, LeafState, leaf_reader, begun, begun_line, count_of, frames_of, frame_turn, frame_nothing, rules}
+use Rattle.hb_read_program.specs.Frames.{Frame, waits, reads, ATurn, turn_to, LeafState, leaf_reader, begun, count_of, frames_of, frame_turn, frame_nothing, rules}
 use Rattle.hb_read_program.specs.declared.frame.Frame.TheVariants as kept
 use Rattle.hb_read_program.specs.declared.run.Step.TheVariants as step
-use Rattle.hb_read_program.specs.Running.{LeafReader, Kept, seen_leaf, seen_frame, seen, Turned, turned_to, Stepped, Ended, LeafTook, LeafBegan}
+use Rattle.hb_read_program.specs.Running.{LeafReader, Kept, seen_leaf, seen_frame, seen, Stepped, Ended, LeafTook, LeafBegan}
 
 -- the last of some symbols goes on the stack first
 

@@ -1,10 +1,9 @@
 -- What the reader of programs holds, as the frames and nodes of the machine; and how each of its parts runs.
-use Rattle.std.specs.Prelude.{◌≡◌, ℕ, ◌+◌, Bool, true, false, is_some, is_none, if◌then◌else◌, List, [], ◌∷◌, ◌++◌, Option, Some, None}
-use Rattle.hb_base.specs.declared.place.Place.{Place}
+use Rattle.std.specs.Prelude.{◌≡◌, ◌+◌, Bool, true, false, is_some, if◌then◌else◌, List, [], ◌∷◌, ◌++◌, Option, Some, None}
 use Rattle.hb_tokens.specs.declared.token.Token.{Token}
 use Rattle.hb_tokens.specs.declared.word.Word.TheVariants as word
 use Rattle.hb_tree.specs.declared.types.NameAt.{NameAt}
-use Rattle.hb_engine.specs.Tables.{Turn, Thread, thread}
+use Rattle.hb_engine.specs.Tables.{Thread, thread}
 use Rattle.hb_read_types.specs.declared.context_reader.ContextReader.{ContextReader}
 use Rattle.hb_read_expressions.specs.declared.state.State.{State}
 use Rattle.hb_read_declarations.specs.declared.node.DeclNode.{DeclNode}
@@ -13,8 +12,10 @@ use Rattle.hb_read_declarations.specs.Combined.{mapped}
 use Rattle.hb_read_declarations.specs.Nodes.{named}
 use Rattle.hb_read_declarations.specs.Readers.{Out}
 use Rattle.hb_read_declarations.specs.Worths.{var, con, op, this_word, mark}
-use Rattle.hb_read_program.specs.Rules.{Leaf, Begins, no_leaf, begins, begins_line, begins_class}
+use Rattle.hb_read_program.specs.Rules.{Leaf, Symbol, Production, Begins, no_leaf, begins, begins_line, begins_class}
 use Rattle.hb_read_program.specs.declared.symbol.Leaf.TheVariants as leaf
+use Rattle.hb_read_program.specs.declared.symbol.Symbol.TheVariants as symbol
+use Rattle.hb_read_program.specs.declared.symbol.Production.TheVariants as production
 use Rattle.hb_read_program.specs.Frames.{Frame, waits, reads, reads_line, reads_class, ATurn, turn_to, leaf_reader, begun, frames_of, sig_behind, first_at, Side, Spot, Heading, name_spot, operator_spot, close_spot, first_heading, next_heading}
 use Rattle.hb_read_program.specs.declared.side.Side.TheVariants as side
 use Rattle.hb_read_program.specs.declared.side.Spot.TheVariants as spot
@@ -29,6 +30,32 @@ pub use Rattle.hb_read_program.specs.declared.run.Step.{Step}
 pub use Rattle.hb_read_program.specs.declared.run.Step.TheVariants as step
 pub use Rattle.hb_read_program.specs.declared.run.Run.{Run}
 pub use Rattle.hb_read_program.specs.declared.line.SigHead.{SigHead}
+
+-- the symbols of classes and instances that begin with a token, and what stands behind it
+
+abbrev pub is_class_symbol : Symbol → Bool
+is_class_symbol symbol.Depend = true
+is_class_symbol symbol.Depends = true
+is_class_symbol symbol.Methods = true
+is_class_symbol symbol.Sigs = true
+is_class_symbol symbol.AfterSig = true
+is_class_symbol symbol.Conditions = true
+is_class_symbol symbol.Body = true
+is_class_symbol symbol.Rows = true
+is_class_symbol symbol.AfterRow = true
+is_class_symbol _ = false
+
+abbrev pub is_in_class : Production → Bool
+is_in_class production.Depend = true
+is_in_class production.Depends = true
+is_in_class production.Methods = true
+is_in_class production.Sigs = true
+is_in_class production.SigNames = true
+is_in_class production.SigBracketed = true
+is_in_class production.Conditions = true
+is_in_class production.Body = true
+is_in_class production.Rows = true
+is_in_class _ = false
 
 -- the frames that are kept, as those of the machine
 

@@ -1,5 +1,6 @@
-ghost use Rattle.std.specs.Prelude.{◌≡◌, [], ◌∷◌};
-ghost use Rattle.hb_read_program.specs.Rules.{between, fits, found, heads};
+ghost use Rattle.std.specs.Prelude.{◌≡◌, [], ◌∷◌, IsTrue};
+ghost use Rattle.hb_read_program.specs.Running.{is_class_symbol};
+ghost use Rattle.hb_read_program.specs.Rules.{head, mute, between, fits, found, heads};
 
 use crate::symbol::{Form, Head, Kind, Production, Put, Symbol, Things};
 use crate::worths::{
@@ -133,9 +134,34 @@ fn first(heads: &[Head], token: &Token) -> Option<Head>
 
 /// The one way in which a symbol begins.
 fn only(kind: Kind, put: Put, behind: Production, token: &Token) -> Option<Head>
-    ensures { result ≡ found (record { kind = kind; put = put; behind = behind } ∷ []) token.now }
+    ensures { result ≡ found (head kind put behind ∷ []) token.now }
 {
     first(&[Head { kind, put, behind }], token)
+}
+
+/// The same, with a token that puts nothing out.
+fn mute(kind: Kind, behind: Production, token: &Token) -> Option<Head>
+    ensures { result ≡ found (mute kind behind ∷ []) token.now }
+{
+    only(kind, Put::Nothing, behind, token)
+}
+
+/// The way in which a symbol in a class or in an instance begins with this token.
+fn found_in_class(symbol: Symbol, token: &Token) -> Option<Head>
+    requires { IsTrue (is_class_symbol symbol) }
+    ensures { result ≡ found (heads symbol) token.now }
+{
+    match symbol {
+        Symbol::Depend => first(heads![Var => Name, Depend;], token),
+        Symbol::Depends => first(heads![Word(Word::Bar) => Nothing, Depends;], token),
+        Symbol::Methods => first(heads![Word(Word::Where) => Nothing, Methods;], token),
+        Symbol::Sigs => first(SIGS, token),
+        Symbol::AfterSig => first(AFTER_SIG, token),
+        Symbol::Conditions => first(heads![Word(Word::If) => Nothing, Conditions;], token),
+        Symbol::Body => first(heads![Word(Word::Where) => Nothing, Body;], token),
+        Symbol::Rows | Symbol::AfterRow => first(ROWS, token),
+        _ => None,
+    }
 }
 
 /// The way in which the symbol begins with this token.
@@ -144,13 +170,8 @@ pub fn found(symbol: Symbol, token: &Token) -> Option<Head>
 {
     match symbol {
         Symbol::One(kind, put) => only(kind, put, Production::Nothing, token),
-        Symbol::More(things) => only(
-            between(things),
-            Put::Nothing,
-            Production::More(things),
-            token,
-        ),
-        Symbol::Digit(fix) => only(Kind::Digit, Put::Nothing, Production::Fixed(fix), token),
+        Symbol::More(things) => mute(between(things), Production::More(things), token),
+        Symbol::Digit(fix) => mute(Kind::Digit, Production::Fixed(fix), token),
         Symbol::Program => first(heads![Mark(b'{') => Nothing, Program;], token),
         Symbol::Tops => first(TOPS, token),
         Symbol::AfterTop => first(AFTER_TOP, token),
@@ -171,18 +192,11 @@ pub fn found(symbol: Symbol, token: &Token) -> Option<Head>
         Symbol::FieldInit => first(heads![Var => Name, FieldInit;], token),
         Symbol::MoreInits => first(MORE_INITS, token),
         Symbol::Direction => first(DIRECTION, token),
-        Symbol::Depend => first(heads![Var => Name, Depend;], token),
-        Symbol::Depends => first(heads![Word(Word::Bar) => Nothing, Depends;], token),
-        Symbol::Methods => first(heads![Word(Word::Where) => Nothing, Methods;], token),
-        Symbol::Sigs => first(SIGS, token),
-        Symbol::AfterSig => first(AFTER_SIG, token),
-        Symbol::Conditions => first(heads![Word(Word::If) => Nothing, Conditions;], token),
-        Symbol::Body => first(heads![Word(Word::Where) => Nothing, Body;], token),
-        Symbol::Rows | Symbol::AfterRow => first(ROWS, token),
         Symbol::Read(_)
         | Symbol::Close(_)
         | Symbol::Atypes
         | Symbol::SomeAtypes
         | Symbol::ClassHead => None,
+        _ => found_in_class(symbol, token),
     }
 }

@@ -1,6 +1,6 @@
-ghost use Rattle.std.specs.Prelude.{◌≡◌};
+ghost use Rattle.std.specs.Prelude.{◌≡◌, IsTrue};
 ghost use Rattle.hb_read_program.specs.Rules.{begins_with, behind};
-ghost use Rattle.hb_read_program.specs.Running.{seen_begins};
+ghost use Rattle.hb_read_program.specs.Running.{is_in_class, seen_begins};
 ghost use Rattle.hb_read_program.specs.declared.symbol.Production.TheVariants as production;
 
 use crate::begins::Begins;
@@ -254,6 +254,25 @@ fn more(things: Things) -> &'static [Item]
     }
 }
 
+/// What stands behind the first token of a thing in a class or in an instance.
+fn class_behind(production: Production) -> &'static [Item]
+    requires { IsTrue (is_in_class production) }
+    ensures { result.now ≡ behind production }
+{
+    match production {
+        Production::Depend => DEPEND,
+        Production::Depends => &[plain!(Depend), more!(Depends)],
+        Production::Methods => &[mark!(b'{'), plain!(Sigs)],
+        Production::Sigs => &[counted!(Sigs, Same)],
+        Production::SigNames => SIG_NAMES,
+        Production::SigBracketed => SIG_BRACKETED,
+        Production::Conditions => &[leaf!(Pred), more!(Preds)],
+        Production::Body => &[mark!(b'{'), plain!(Rows)],
+        Production::Rows => &[counted!(Rows, Same)],
+        _ => &[],
+    }
+}
+
 /// What stands behind the first token.
 pub fn behind(production: Production) -> &'static [Item]
     ensures { result.now ≡ behind production }
@@ -291,15 +310,7 @@ pub fn behind(production: Production) -> &'static [Item]
         Production::FieldInit => &[word!(LeftArrow), plain!(Init), closing!(InitField)],
         Production::MoreInits => &[plain!(FieldInit), counted!(MoreInits, Next)],
         Production::Address(dir) => address(dir),
-        Production::Depend => DEPEND,
-        Production::Depends => &[plain!(Depend), more!(Depends)],
-        Production::Methods => &[mark!(b'{'), plain!(Sigs)],
-        Production::Sigs => &[counted!(Sigs, Same)],
-        Production::SigNames => SIG_NAMES,
-        Production::SigBracketed => SIG_BRACKETED,
-        Production::Conditions => &[leaf!(Pred), more!(Preds)],
-        Production::Body => &[mark!(b'{'), plain!(Rows)],
-        Production::Rows => &[counted!(Rows, Same)],
+        _ => class_behind(production),
     }
 }
 

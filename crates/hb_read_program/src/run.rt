@@ -152,11 +152,10 @@ impl Run {
         alloc: Global,
         leaf: Leaf,
         items: &[Item],
-        place: Place,
         count: usize,
         token: &Token,
     ) -> Result<bool, Memory>
-        ensures { IfOk result (λ taken. Turned taken (leaf_turn (begins leaf items.now) place count token.now) (seen_run self.old) (seen_run self.new)) }
+        ensures { IfOk result (λ taken. Turned taken (leaf_turn (begins leaf items.now) token.now.place count token.now) (seen_run self.old) (seen_run self.new)) }
     {
         let Some(reader) = LeafReader::begin(alloc, leaf, token)? else {
             return Ok(false);
@@ -171,11 +170,10 @@ impl Run {
         &mut self,
         alloc: Global,
         items: &[Item],
-        place: Place,
         count: usize,
         token: &Token,
     ) -> Result<bool, Memory>
-        ensures { IfOk result (λ taken. Turned taken (leaf_turn (begins_line items.now) place count token.now) (seen_run self.old) (seen_run self.new)) }
+        ensures { IfOk result (λ taken. Turned taken (leaf_turn (begins_line items.now) token.now.place count token.now) (seen_run self.old) (seen_run self.new)) }
     {
         let mut equation = Some(State::equation(alloc));
         let mut side = Side::start(alloc);
@@ -250,8 +248,8 @@ impl Run {
         }
         match begins_with(symbol) {
             Begins::NoLeaf => Ok(false),
-            Begins::Leaf(leaf, items) => self.begin_leaf(alloc, leaf, items, place, count, token),
-            Begins::Line(items) => self.begin_line(alloc, items, place, count, token),
+            Begins::Leaf(leaf, items) => self.begin_leaf(alloc, leaf, items, count, token),
+            Begins::Line(items) => self.begin_line(alloc, items, count, token),
             Begins::Class => {
                 let context = Some(ContextReader::new(alloc));
                 let mut heading = Heading::Before;
