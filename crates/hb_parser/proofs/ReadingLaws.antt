@@ -9,7 +9,6 @@ use Rattle.hb_grammar.proofs.FirstWrong.{LeadsTo, here, taken}
 use Rattle.hb_engine.specs.Tables.{Thread}
 use Rattle.hb_read_declarations.specs.declared.node.DeclNode.{DeclNode}
 use Rattle.hb_read_program.specs.Frames.{Frame, program_engine}
-use Rattle.hb_read_program.specs.Running.{Moved}
 use Rattle.hb_read_program.proofs.Ending.{ends_whole}
 use Rattle.hb_read_program.proofs.Exactness.{program_exact}
 use Rattle.hb_parser.specs.Parsing.{FirstWrong, HasNodes}
@@ -29,7 +28,7 @@ leads_on : {S V : Type 0} {reader : Reader S V} {s r q : S} {ts : List Token} (t
 leads_on t here m = taken m here
 leads_on t (taken n l) m = taken n (leads_on t l m)
 
-pub one_more_read : (tokens : List Token) (i : ℕ) (d : Token) {s r : State} → i < length tokens → Read tokens i s → Moved true (program_engine.move s (get_or tokens i d)) r → Read tokens (i + 1) r
+pub one_more_read : (tokens : List Token) (i : ℕ) (d : Token) {s r : State} → i < length tokens → Read tokens i s → program_engine.move s (get_or tokens i d) ≡ Some r → Read tokens (i + 1) r
 one_more_read tokens i d {r} within l took =
     let more : i + 1 ≡ suc i = omega arith in
     let next : take (i + 1) tokens ≡ take i tokens ++ get_or tokens i d ∷ [] = ap (λ k. take k tokens) more ∙ take-suc tokens i d within in
@@ -39,7 +38,7 @@ one_more_read tokens i d {r} within l took =
 split : (xs : List Token) (i : ℕ) (d : Token) → i < length xs → take i xs ++ get_or xs i d ∷ drop (suc i) xs ≡ xs
 split xs i d within = ap (λ rest. take i xs ++ rest) (sym (drop-cons xs i d within)) ∙ take-append-drop i xs
 
-pub wrong_here : (tokens : List Token) (i : ℕ) (d : Token) {s r : State} → i < length tokens → Read tokens i s → Moved false (program_engine.move s (get_or tokens i d)) r → FirstWrong tokens (get_or tokens i d).place
+pub wrong_here : (tokens : List Token) (i : ℕ) (d : Token) {s : State} → i < length tokens → Read tokens i s → program_engine.move s (get_or tokens i d) ≡ None → FirstWrong tokens (get_or tokens i d).place
 wrong_here tokens i d within l took =
     subst (λ ts. FirstWrong ts (get_or tokens i d).place) (split tokens i d within) (refused_wrong (get_or tokens i d) (drop (suc i) tokens) program_exact l took)
 

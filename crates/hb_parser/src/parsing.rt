@@ -23,8 +23,9 @@ fn read_nodes(alloc: Global, tokens: &[Token]) -> Result<Result<List<DeclNode>, 
 {
     let mut reader = ProgramReader::new(alloc)?;
     for token in tokens {
-        if !reader.take(*token)? {
-            return Ok(Err(token.place));
+        match reader.take(*token)? {
+            Some(next) => reader = next,
+            None => return Ok(Err(token.place)),
         }
     }
     // Behind its end a program is whole.

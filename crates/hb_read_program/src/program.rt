@@ -1,4 +1,7 @@
 ghost use Rattle.std.specs.Prelude.{◌≡◌, IfOk};
+ghost use Rattle.hb_grammar.specs.Reading.{Exact};
+ghost use Rattle.hb_read_declarations.specs.Exactly.{Made, ProgramRead};
+ghost use Rattle.hb_read_declarations.specs.Nodes.{program_nodes};
 ghost use Rattle.hb_read_program.specs.Frames.{program_engine};
 
 use crate::frame::Frame;
@@ -35,8 +38,10 @@ impl Model for ProgramReader {
 
 impl ProgramReader {
     /// The reader of a program, at its start.
+    #[tactic(auto, using(crate::proofs::Exactness::program_exact))]
     pub fn new(alloc: Global) -> Result<ProgramReader, Memory>
         ensures start { IfOk result (λ reader. reader ≡ program_engine.start) }
+        ensures exact { Exact program_engine (Made ProgramRead program_nodes) }
     {
         let place = Place { line: 0, col: 0 };
         let mut frames = Stack::new(alloc);
