@@ -1,4 +1,4 @@
--- What the readers of declarations and programs are exact against.
+-- What the reader of programs is exact against.
 use Rattle.std.specs.Prelude.{◌≡◌, List, ◌∷◌}
 use Rattle.hb_tokens.specs.declared.token.Token.{Token}
 use Rattle.hb_tree.specs.declared.declaration.Decl.{Decl}

@@ -29,7 +29,7 @@ use Rattle.hb_read_program.specs.declared.symbol.Production.TheVariants as produ
 use Rattle.hb_read_program.specs.Frames.{LeafState, leaf_reader, a_context, Frame, waits, reads, reads_line, reads_class, ATurn, turn_to, frames_of, place_of, Side, Heading, side_moved, side_start, sig_behind, first_at, expr_moved, line_turn, heading_moved, context_moved, begun, begun_line, leaf_turn, head_turn, frame_turn, frame_nothing, rules, program_engine}
 use Rattle.hb_read_program.specs.declared.side.Heading.TheVariants as heading
 use Rattle.hb_read_program.specs.Sets.{type_codes, line_follow, first}
-use Rattle.hb_read_program.proofs.TableLaws.{leaf_known, cond_cases, both_left, both_right}
+use Rattle.hb_read_program.proofs.TableLaws.{leaf_known, by_cond, both_left, both_right}
 use Rattle.hb_read_program.proofs.Fits.{an_eq, code_in, side_code, sig_code, SigTurn, sig_at, sig_of, side_lives, heading_lives, LineTurn, line_sig, line_still, line_of, class_items, ClassTurn, class_arrow, class_still, class_of, heading_code, context_code}
 use Rattle.hb_read_program.proofs.Turns.{begun_some, line_some, symbol_begins}
 
@@ -158,7 +158,7 @@ turn_all e h = subst (λ n. AllBefore n.frames) e h
 found_before : (hs : List Head) (t : Token) {h : Head} → heads_before hs ≡ true → found hs t ≡ Some h → all_before (behind h.behind) ≡ true
 found_before [] t k e = cc
 found_before (g ∷ hs) t k e =
-    cond_cases (fits g.kind t) (Some g) (found hs t) e
+    by_cond (fits g.kind t) (Some g) (found hs t) e
     (λ d i. subst (λ h. all_before (behind h.behind) ≡ true) (some_is i) (both_left (all_before (behind g.behind)) (heads_before hs) k))
     (λ d i. found_before hs t (both_right (all_before (behind g.behind)) (heads_before hs) k) i)
 
@@ -326,7 +326,7 @@ first_moved p n out t e =
     begun : (o : Option Head) → found (heads symbol.Program) t ≡ o → (m : ATurn) → head_turn o symbol.Program p n t ≡ Some m → Coming (m.frames ++ [])
     begun None i m d = cc
     begun (Some h) i m d =
-        cond_cases (fits (kind.Mark 123) t) (Some (mark_head 123 production.Program)) None i
+        by_cond (fits (kind.Mark 123) t) (Some (mark_head 123 production.Program)) None i
         (λ j k. subst (λ m. Coming (m.frames ++ [])) (ap (λ h. turn_to (frames_of (behind h.behind) (place_of symbol.Program p t) n t) (put_out h.put p n t)) (some_is k) ∙ some_is d) (up_to_end (then (waits_before refl) last)))
         (λ j k. cc)
 

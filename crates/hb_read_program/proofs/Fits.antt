@@ -1,5 +1,5 @@
 -- The frames that come about, and which tokens they take.
-use Rattle.std.proofs.Common.{◌≡◌, ℕ, Bool, true, false, cond, List, [], ◌∷◌, Option, Some, None, is_some, refl, ap, ◌∙◌}
+use Rattle.std.proofs.Common.{◌≡◌, ℕ, Bool, true, false, List, [], ◌∷◌, Option, Some, None, is_some, refl, ap, ◌∙◌}
 use Rattle.hb_base.specs.declared.name.Name.{Name}
 use Rattle.hb_base.specs.declared.place.Place.{Place}
 use Rattle.hb_tokens.specs.declared.token.Token.{Token}
@@ -24,7 +24,7 @@ use Rattle.hb_read_program.specs.declared.side.Side.TheVariants as side
 use Rattle.hb_read_program.specs.declared.side.Spot.TheVariants as spot
 use Rattle.hb_read_program.specs.declared.side.Heading.TheVariants as heading
 use Rattle.hb_read_program.specs.Sets.{type_codes, line_follow, class_follow, leaf_follow, first, follow, within}
-use Rattle.hb_read_program.proofs.TableLaws.{within_is}
+use Rattle.hb_read_program.proofs.TableLaws.{by_cond, within_is}
 
 abbrev pub an_eq : Reader State Out
 an_eq = an_equation pat_start
@@ -60,16 +60,6 @@ frame_follow (waits s p n) c = member c (follow s)
 frame_follow (reads l s) c = member c (leaf_follow l)
 frame_follow (reads_line e d) c = member c line_follow
 frame_follow (reads_class x h) c = member c class_follow
-
--- what an option is
-
-pub by_option : {A P : Type 0} (o : Option A) → (o ≡ None → P) → ((a : A) → o ≡ Some a → P) → P
-by_option None f g = f refl
-by_option (Some a) f g = g a refl
-
-pub by_cond : {A P : Type 0} (b : Bool) (x y : A) {z : A} → cond b x y ≡ z → (b ≡ true → x ≡ z → P) → (b ≡ false → y ≡ z → P) → P
-by_cond true x y e f g = f refl e
-by_cond false x y e f g = g refl e
 
 -- the code of a token that is worth something, in a set that has it
 pub code_in : {V : Type 0} (f : Token → Option V) (x : ℕ) (xs : List ℕ) (t : Token) → ((t : Token) (v : V) → f t ≡ Some v → member (code t) (x ∷ []) ≡ true) → within (x ∷ []) xs ≡ true → is_some (f t) ≡ true → member (code t) xs ≡ true

@@ -11,8 +11,8 @@ use Rattle.hb_read_program.specs.Rules.{Leaf, Symbol, Item, Head, Form, Begins, 
 use Rattle.hb_read_program.specs.declared.symbol.Leaf.TheVariants as leaf
 use Rattle.hb_read_program.specs.declared.side.Heading.TheVariants as heading
 use Rattle.hb_read_program.specs.Frames.{a_context, waits, frames_of, place_of, side_start, put_nothing}
-use Rattle.hb_read_program.proofs.TableLaws.{LeafReads}
-use Rattle.hb_read_program.proofs.Fits.{an_eq, by_cond}
+use Rattle.hb_read_program.proofs.TableLaws.{by_cond, LeafReads}
+use Rattle.hb_read_program.proofs.Fits.{an_eq}
 use Rattle.hb_read_program.proofs.Means.{Thing, thing, LeafMeans, LineMeans, ClassMeans, Means}
 
 -- nodes of parts, whatever the brackets

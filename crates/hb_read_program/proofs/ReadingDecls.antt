@@ -17,24 +17,19 @@ use Rattle.hb_engine.proofs.EngineLaw.{append_none, rows}
 use Rattle.hb_read_declarations.specs.declared.node.DeclNode.TheVariants as node
 use Rattle.hb_read_declarations.specs.Nodes.{named, counted, names_of, data_con_of, decl_nodes}
 use Rattle.hb_read_declarations.specs.Readers.{Out}
-use Rattle.hb_read_declarations.proofs.Lists.{head_of}
-use Rattle.hb_read_declarations.proofs.Names.{NameRead, names_back}
+use Rattle.hb_read_declarations.proofs.Names.{NameRead}
 use Rattle.hb_read_program.specs.Rules.{heads}
 use Rattle.hb_read_program.specs.declared.symbol.Symbol.TheVariants as symbol
-use Rattle.hb_read_program.specs.declared.symbol.Things.TheVariants as things
 use Rattle.hb_read_program.specs.declared.symbol.Form.TheVariants as form
 use Rattle.hb_read_program.specs.Frames.{waits}
 use Rattle.hb_read_program.proofs.Counting.{none_plus, none_more, one_more, counts}
 use Rattle.hb_read_program.proofs.Finishes.{Rows, rows_as}
-use Rattle.hb_read_program.proofs.Reading.{by_head, by_nothing, a_con, a_word, mark_fits, vars_read}
-use Rattle.hb_read_program.proofs.ReadingLists.{found_at, Puts, things_read, name_read, data_cons_read}
+use Rattle.hb_read_program.proofs.Reading.{by_head, by_nothing, a_con, a_word, vars_read}
+use Rattle.hb_read_program.proofs.ReadingLists.{found_at, Puts, name_read, data_cons_read}
 
 -- sep(name, ",")
 pub names_of_name : Puts symbol.Name NameRead named
 names_of_name p n ts us a h = name_read p n h
-
-pub names_read : (p q : Place) (n : ℕ) {ts us : List Token} {ns : List NameAt} → ReadsNames ts ns us → Rows (waits symbol.Name p n ∷ waits (symbol.More things.Names) q 1 ∷ []) ts (names_of ns) us
-names_read p q n h = things_read things.Names named (λ t e. mark_fits 44 t e) names_of_name p q n (head_of (names_back h))
 
 -- a declaration, and what stands behind it
 abbrev pub DeclPuts : Decl → List Token → List Token → Type 0

@@ -81,9 +81,10 @@ same_code c x xs e d = ap (λ c. member c (x ∷ xs)) e ∙ or_left (x == x) (me
 
 -- heads
 
-pub cond_cases : {A P : Type 0} (b : Bool) (x y : A) {z : A} → cond b x y ≡ z → (b ≡ true → x ≡ z → P) → (b ≡ false → y ≡ z → P) → P
-cond_cases true x y e f g = f refl e
-cond_cases false x y e f g = g refl e
+-- which side of a choice it is
+pub by_cond : {A P : Type 0} (b : Bool) (x y : A) {z : A} → cond b x y ≡ z → (b ≡ true → x ≡ z → P) → (b ≡ false → y ≡ z → P) → P
+by_cond true x y e f g = f refl e
+by_cond false x y e f g = g refl e
 
 equal_self : (x : ℕ) → (x == x) ≡ true
 equal_self x = grind (Rattle.std.proofs.Common.arith, Rattle.std.proofs.lemmas.Bool.Decides.nat_tests)
@@ -91,7 +92,7 @@ equal_self x = grind (Rattle.std.proofs.Common.arith, Rattle.std.proofs.lemmas.B
 pub found_code : (hs : List Head) (t : Token) {h : Head} → found hs t ≡ Some h → member (code t) (head_codes hs) ≡ true
 found_code [] t e = cc
 found_code (g ∷ hs) t e =
-    cond_cases (fits g.kind t) (Some g) (found hs t) e
+    by_cond (fits g.kind t) (Some g) (found hs t) e
     (λ d i. same_code (code t) (kind_code g.kind) (head_codes hs) (fits_code g.kind t d) (equal_self (kind_code g.kind)))
     (λ d i. or_right (code t == kind_code g.kind) (member (code t) (head_codes hs)) (found_code hs t i))
 
@@ -106,7 +107,7 @@ both_right false b e = cc
 pub found_keeps : (up : List ℕ) (hs : List Head) (t : Token) {h : Head} → heads_keep up hs ≡ true → found hs t ≡ Some h → row_keeps up (behind h.behind) ≡ true
 found_keeps up [] t k e = cc
 found_keeps up (g ∷ hs) t k e =
-    cond_cases (fits g.kind t) (Some g) (found hs t) e
+    by_cond (fits g.kind t) (Some g) (found hs t) e
     (λ d i. subst (λ h. row_keeps up (behind h.behind) ≡ true) (some_is i) (both_left (row_keeps up (behind g.behind)) (heads_keep up hs) k))
     (λ d i. found_keeps up hs t (both_right (row_keeps up (behind g.behind)) (heads_keep up hs) k) i)
 
