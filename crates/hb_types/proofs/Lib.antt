@@ -1,3 +1,5 @@
 pub mod ClosureLemmas
 pub mod TableLemmas
+pub mod PutLemmas
+pub mod NormalLemmas
 pub mod UnifyLemmas

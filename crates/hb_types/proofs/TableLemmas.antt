@@ -1,11 +1,11 @@
 -- A table grows at its end: each place keeps its type, and its form says what the type is.
-use Rattle.std.proofs.Common.{◌≡◌, ℕ, zero, suc, ◌+◌, ◌<◌, ◌≤◌, List, [], ◌∷◌, ◌++◌, length, sym, refl, ap, ◌∙◌, subst, arith, ⊎_elim, length-append}
+use Rattle.std.proofs.Common.{◌≡◌, ℕ, zero, suc, ◌+◌, ◌<◌, ◌≤◌, List, [], ◌∷◌, ◌++◌, length, sym, refl, ap, ◌∙◌, subst, arith, ⊎_elim, length-append, append_assoc}
 use Rattle.std.proofs.lemmas.List.{get_or_append_left, get_or_push, get_or_past}
 use Rattle.std.proofs.lemmas.Bool.{cases_eq, cases_lt}
 use Rattle.hb_types.specs.declared.table.Form.{Form}
 use Rattle.hb_types.specs.declared.table.Form.TheVariants as form
 use Rattle.hb_types.specs.Types.{Ty, Unknown, Apply}
-use Rattle.hb_types.specs.Tables.{type_at, built, types_from, types_of, HasPartsBelow, form_at, AreLaid}
+use Rattle.hb_types.specs.Tables.{type_at, built, types_from, types_of, HasPartsBelow, form_at, AreLaid, Extends}
 
 pub type_at-left : (ts : List Ty) (t : Ty) (k : ℕ) → k < length ts → type_at (ts ++ t ∷ []) k ≡ type_at ts k
 type_at-left ts t k h = get_or_append_left ts (t ∷ []) (Unknown 0) k h
@@ -74,3 +74,13 @@ laid-none ns e = record { each = λ k. past-parts k ns k (rw e (omega arith)) }
 
 pub laid-length : (ns : List Form) (ts : List Ty) → types_of ns ≡ ts → length ts ≡ length ns
 laid-length ns ts e = sym (ap length e) ∙ length-types_of ns
+
+-- a place of a table stays what it is when more types come
+pub more-types : (table new : List Ty) (k : ℕ) → Extends table new → k < length table → (type_at new k ≡ type_at table k) × (k < length new)
+more-types table new k x h = (
+  ap (λ ts. type_at ts k) x.1 ∙ get_or_append_left table x.0 (Unknown 0) k h,
+  omega (arith, h, ap length x.1, length-append table x.0),
+)
+
+pub extends-more : (a b c : List Ty) → Extends a b → Extends b c → Extends a c
+extends-more a b c x y = (x.0 ++ y.0, y.1 ∙ ap (λ ts. ts ++ y.0) x.1 ∙ append_assoc a x.0 y.0)

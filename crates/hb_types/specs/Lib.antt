@@ -5,6 +5,8 @@ pub mod KindViews
 pub mod Types
 pub mod TypeCodes
 pub mod Tables
+pub mod Put
+pub mod Normal
 pub mod Uses
 pub mod UseCodes
 pub mod Closure

@@ -1,5 +1,5 @@
 -- Tables of types: each node is an unknown, an atom, or an application of two earlier nodes.
-use Rattle.std.specs.Prelude.{ℕ, ◌<◌, ◌-◌, List, [], ◌∷◌, ◌++◌, length, slice_index_or}
+use Rattle.std.specs.Prelude.{◌≡◌, ℕ, ◌+◌, ◌<◌, ◌-◌, List, [], ◌∷◌, ◌++◌, length, slice_index_or}
 use Rattle.hb_types.specs.declared.table.Form.{Form}
 use Rattle.hb_types.specs.declared.table.Form.TheVariants as form
 use Rattle.hb_types.specs.Types.{Ty, Unknown, Leaf, Apply}
@@ -39,3 +39,17 @@ pub record AreLaid (ns : List Form) : Type 0 where
 -- the last type of a table
 abbrev pub last_type : List Ty → Ty
 last_type ts = type_at ts (length ts - 1)
+
+-- a form with its parts so many places further on
+abbrev pub moved : ℕ → Form → Form
+moved by (form.Unknown n) = form.Unknown n
+moved by (form.Leaf a) = form.Leaf a
+moved by (form.Apply f x) = form.Apply (f + by) (x + by)
+
+-- a table with more types at its end
+abbrev pub Extends : List Ty → List Ty → Type 0
+Extends old new = (more : List Ty) × (new ≡ old ++ more)
+
+-- a place of a table, at which the type is as P says
+abbrev pub IsPlaced : List Ty → ℕ → (Ty → Type 0) → Type 0
+IsPlaced table place P = (place < length table) × P (type_at table place)

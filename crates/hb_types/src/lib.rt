@@ -5,6 +5,8 @@
 mod atom;
 mod instance_use;
 mod kind;
+mod normal;
+mod put;
 mod scheme;
 mod table;
 #[cfg(test)]
