@@ -1,5 +1,7 @@
 pub mod ClosureLemmas
+pub mod MadeLemmas
 pub mod TableLemmas
+pub mod KindLemmas
 pub mod PutLemmas
 pub mod NormalLemmas
 pub mod UnifyLemmas

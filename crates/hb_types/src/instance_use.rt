@@ -1,44 +1,50 @@
-ghost use Rattle.std.specs.Prelude.{◌≡◌};
-ghost use Rattle.hb_types.specs.Uses.{AUse, uses};
+ghost use Rattle.std.specs.Prelude.{◌≡◌, ◌<◌, length};
+ghost use Rattle.hb_types.specs.UseTables.{uses_of, last_use, AreUses};
 
-use crate::types::Ty;
+use crate::table::Types;
 use hb_base::List;
 use std::marker::Model;
 
-/// How a predicate holds: the instance, the types that it is taken at, and how its context holds.
+/// How a predicate holds, as a node of a table: the instance, the places of the types that it is taken at, and the
+/// places of the uses by which its context holds.
+#[derive(Debug, Drop)]
+pub struct UseForm {
+    pub instance: u32,
+    pub types: List<usize>,
+    pub context: List<usize>,
+}
+
+/// How a predicate holds: the last of a table of uses, with the table of their types. Uses and types that occur many
+/// times stand there once. Contracts see the instance, the types, and how the context holds.
 #[derive(Debug, Drop)]
 pub struct InstanceUse {
-    pub instance: u32,
-    pub types: List<Ty>,
-    pub context: List<InstanceUse>,
+    pub types: Types,
+    pub uses: List<UseForm>,
 }
 
 impl Model for InstanceUse {
-    ghost use Rattle.hb_types.specs.Uses.{InstanceUse as Tree, AUse, uses, use_size};
-    ghost use Rattle.hb_types.specs.UseCodes.{coded_use, uses_fall};
+    ghost use Rattle.std.specs.Prelude.{◌<◌, length};
+    ghost use Rattle.hb_types.specs.Uses.{InstanceUse as Tree};
+    ghost use Rattle.hb_types.specs.UseCodes.{coded_use};
 
     ghost Value = { Tree };
 
     ghost coded = { coded_use };
 
-    ghost view = { λ u. AUse u.instance u.types (uses u.context) };
+    ghost use Rattle.hb_types.specs.UseTables.{uses_of, last_use, AreUses};
 
-    ghost size = { use_size };
+    ghost view = { λ u. last_use (uses_of u.types u.uses) };
 
-    ghost use Rattle.std.proofs.Common.{arith};
-
-    ghost size_decreases = { λ u h. omega (arith, uses_fall u.context) };
+    ghost invariant = { λ u. (0 < length u.uses) × AreUses u.types u.uses };
 }
 
 impl InstanceUse {
-    /// An instance at types, with how its context holds.
-    pub fn of(instance: u32, types: List<Ty>, context: List<InstanceUse>) -> InstanceUse
-        ensures built { result ≡ AUse instance types (uses context) }
+    /// The last of some uses, whose types stand in this table.
+    pub fn of(types: Types, uses: List<UseForm>) -> InstanceUse
+        requires some { 0 < length uses }
+        requires uses { AreUses types uses }
+        ensures built { result ≡ last_use (uses_of types uses) }
     {
-        InstanceUse {
-            instance,
-            types,
-            context,
-        }
+        InstanceUse { types, uses }
     }
 }
