@@ -4,4 +4,5 @@ pub mod TableLemmas
 pub mod KindLemmas
 pub mod PutLemmas
 pub mod NormalLemmas
+pub mod UseLemmas
 pub mod UnifyLemmas

@@ -40,10 +40,14 @@ pub record ArePutBelow (count : ℕ) (args of table : List Ty) (places : List �
 abbrev pub ArePut : List Ty → List Ty → List Ty → List ℕ → Type 0
 ArePut args of table places = ArePutBelow (length of) args of table places
 
+-- a variable is one of those before one
+abbrev pub HasVarBelow : ℕ → Atom → Type 0
+HasVarBelow count (Var v) = v < count
+HasVarBelow count (Con c) = Unit {0}
+HasVarBelow count (Nat n) = Unit {0}
+
 -- it has no unknowns, and its variables are those before one
 abbrev pub HasVarsBelow : ℕ → Ty → Type 0
 HasVarsBelow count (Unknown n) = ⊥
-HasVarsBelow count (Leaf (Var v)) = v < count
-HasVarsBelow count (Leaf (Con c)) = Unit {0}
-HasVarsBelow count (Leaf (Nat n)) = Unit {0}
+HasVarsBelow count (Leaf a) = HasVarBelow count a
 HasVarsBelow count (Apply f x) = HasVarsBelow count f × HasVarsBelow count x

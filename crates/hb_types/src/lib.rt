@@ -15,7 +15,7 @@ mod tests;
 mod types;
 
 pub use atom::Atom;
-pub use instance_use::{InstanceUse, UseForm};
+pub use instance_use::{InstanceUse, UseForm, no_uses, push_use};
 pub use kind::Kind;
 pub use kind_table::{KindForm, Kinds};
 pub use scheme::{Pred, Scheme};
