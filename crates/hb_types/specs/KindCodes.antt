@@ -1,6 +1,6 @@
 -- How the logic stores a kind.
-use Rattle.std.proofs.Common.{◌≡◌, ℕ, refl, ap}
-use Rattle.std.specs.Coded.{Coded}
+use Rattle.std.proofs.Common.{◌≡◌, ℕ, List, refl, ap}
+use Rattle.std.specs.Coded.{Coded, coded_list}
 use base.Stored.{Gv, gnil, gnum, gcons}
 use Rattle.hb_types.specs.Coding.{head, tail, differ}
 use Rattle.hb_types.specs.Kinds.{Kind, Star, Nat, Area, Arrow}
@@ -26,3 +26,6 @@ kind_inj x y e = differ (tag x) (tag y) refl e
 
 abbrev pub coded_kind : Coded Kind
 coded_kind = record { code = kind_code; inj = kind_inj }
+
+abbrev pub coded_kinds : Coded (List Kind)
+coded_kinds = coded_list coded_kind

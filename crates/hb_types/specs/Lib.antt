@@ -1,12 +1,16 @@
 pub mod Coding
 pub mod Kinds
 pub mod KindCodes
-pub mod KindViews
+pub mod Made
+pub mod KindTables
 pub mod Types
 pub mod TypeCodes
 pub mod Tables
+pub mod Put
+pub mod Normal
 pub mod Uses
 pub mod UseCodes
+pub mod UseTables
 pub mod Closure
 pub mod Finite
 pub mod Instance

@@ -1,11 +1,10 @@
 -- How the logic stores the use of an instance.
-use Rattle.std.proofs.Common.{◌≡◌, ◌+◌, ◌≤◌, ℕ, List, [], ◌∷◌, refl, ap, arith}
+use Rattle.std.proofs.Common.{◌≡◌, ℕ, refl, ap}
 use Rattle.std.specs.Coded.{Coded, coded_ℕ}
 use base.Stored.{Gv, gnil, gnum, gcons}
-use denote.Param.Weighed.{most}
 use Rattle.hb_types.specs.Coding.{head, tail, differ}
 use Rattle.hb_types.specs.TypeCodes.{coded_types}
-use Rattle.hb_types.specs.Uses.{InstanceUse, AUse, Uses, NoUses, MoreUses, use_size, uses_size, uses}
+use Rattle.hb_types.specs.Uses.{InstanceUse, AUse, Uses, NoUses, MoreUses}
 
 abbrev mutual
   pub use_code : InstanceUse → Gv
@@ -30,7 +29,3 @@ mutual
 
 abbrev pub coded_use : Coded InstanceUse
 coded_use = record { code = use_code; inj = use_inj }
-
-pub uses_fall : (us : List InstanceUse) → most (λ u. use_size u + 1) us ≤ uses_size (uses us) + 1
-uses_fall [] = omega arith
-uses_fall (u ∷ us) = omega (arith, uses_fall us)

@@ -1,5 +1,5 @@
 -- How a predicate holds, as contracts see it.
-use Rattle.std.specs.Prelude.{ℕ, ◌+◌, List, [], ◌∷◌}
+use Rattle.std.specs.Prelude.{ℕ, List, [], ◌∷◌}
 use Rattle.hb_types.specs.Types.{Ty}
 
 mutual
@@ -10,14 +10,6 @@ mutual
   pub data Uses : Type 0 where
     NoUses : Uses
     MoreUses : InstanceUse → Uses → Uses
-
-abbrev mutual
-  pub use_size : InstanceUse → ℕ
-  use_size (AUse n ts us) = uses_size us + 1
-
-  pub uses_size : Uses → ℕ
-  uses_size NoUses = 0
-  uses_size (MoreUses u us) = use_size u + uses_size us + 1
 
 -- the uses of a list, one after another
 abbrev pub uses : List InstanceUse → Uses

@@ -5,6 +5,9 @@
 mod atom;
 mod instance_use;
 mod kind;
+mod kind_table;
+mod normal;
+mod put;
 mod scheme;
 mod table;
 #[cfg(test)]
@@ -12,8 +15,9 @@ mod tests;
 mod types;
 
 pub use atom::Atom;
-pub use instance_use::InstanceUse;
-pub use kind::{Kind, KindForm};
+pub use instance_use::{InstanceUse, UseForm, no_uses, push_use};
+pub use kind::Kind;
+pub use kind_table::{KindForm, Kinds};
 pub use scheme::{Pred, Scheme};
 pub use table::{Form, Types};
 pub use types::Ty;

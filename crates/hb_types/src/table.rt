@@ -1,5 +1,5 @@
-ghost use Rattle.std.specs.Prelude.{◌≡◌, ◌<◌, ◌++◌, ◌∷◌, [], length, IfOk, OnOk, OnErr};
-ghost use Rattle.hb_types.specs.Tables.{type_at, built, HasPartsBelow};
+ghost use Rattle.std.specs.Prelude.{◌≡◌, ◌<◌, ◌≤◌, ◌-◌, ◌++◌, ◌∷◌, [], length, IfOk, OnOk, OnErr};
+ghost use Rattle.hb_types.specs.Tables.{type_at, built, moved, Extends, HasPartsBelow};
 
 use crate::atom::Atom;
 use hb_base::Memory;
@@ -8,7 +8,7 @@ use std::marker::Model;
 
 /// The form of a type in a table: an unknown that is still to be found, a type without parts, or a type applied to
 /// one more type, both by their places in the table.
-#[derive(Clone, Copy, Debug, PartialEq, Eq)]
+#[derive(Clone, Copy, Debug, PartialEq, Eq, Hash)]
 pub enum Form {
     Unknown(u64),
     Leaf(Atom),
@@ -36,6 +36,18 @@ impl Model for Types {
     ghost view = { λ t. types_of t.forms.items };
 
     ghost invariant = { λ t. AreLaid t.forms.items };
+}
+
+/// A form with its parts as much further on as the form itself, which goes from one place to another.
+fn moved(form: Form, from: usize, to: usize) -> Form
+    requires parts { HasPartsBelow from form }
+    requires on { from ≤ to }
+    ensures { result ≡ moved (to - from) form }
+{
+    match form {
+        Form::Apply(f, x) => Form::Apply(to - (from - f), to - (from - x)),
+        Form::Unknown(_) | Form::Leaf(_) => form,
+    }
 }
 
 impl Types {
@@ -74,5 +86,17 @@ impl Types {
         let place = self.forms.len();
         self.forms.push(form)?;
         Ok(place)
+    }
+
+    /// Puts all types of another table at the end, in their order. After `Memory` the first of them stand there.
+    pub fn append(&mut self, of: &Types) -> Result<(), Memory>
+        ensures ok { OnOk result (self.new ≡ self.old ++ of.now) }
+        ensures more { Extends self.old self.new }
+    {
+        for place in 0..of.len() {
+            let form = moved(of.form(place), place, self.len());
+            self.push(form)?;
+        }
+        Ok(())
     }
 }

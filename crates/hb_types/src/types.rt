@@ -58,6 +58,18 @@ impl Ty {
         Ok(Ty { table })
     }
 
+    /// A type applied to one more type. Its table is that of the first, then that of the second, then the whole.
+    pub fn apply(function: Ty, argument: Ty) -> Result<Ty, Memory>
+        ensures built { IfOk result (λ t. t ≡ types.Apply function argument) }
+    {
+        let mut table = function.table;
+        let f = table.len() - 1;
+        table.append(&argument.table)?;
+        let x = table.len() - 1;
+        table.push(Form::Apply(f, x))?;
+        Ok(Ty { table })
+    }
+
     /// The table of this type and its parts, of which it is the last.
     pub fn table(&self) -> &Types
         ensures some { 0 < length result.now }

@@ -1,5 +1,5 @@
 -- Taking in equations keeps the solutions that make them true, and no others; a type that is put changes none.
-use Rattle.std.proofs.Common.{◌≡◌, ℕ, zero, suc, ◌+◌, ◌<◌, ◌⊎◌, ◌↔◌, inl, inr, List, [], ◌∷◌, ◌++◌, length, Bool, true, false, MatchBool, sym, refl, ap, ◌∙◌, subst, arith, ⊎_elim, length-append, get_or-set_other}
+use Rattle.std.proofs.Common.{◌≡◌, ℕ, zero, suc, ◌+◌, ◌<◌, ◌⊎◌, ◌↔◌, inl, inr, List, [], ◌∷◌, ◌++◌, length, Bool, true, false, MatchBool, sym, refl, ap, ◌∙◌, subst, arith, ⊎_elim, length-append, get_or-set_other, append-nil}
 use Rattle.std.proofs.lemmas.List.{get_or_append_left, get_or_push, get_or_past}
 use Rattle.std.proofs.lemmas.Bool.{cases_eq, cases_lt}
 use Rattle.hb_types.specs.declared.table.Form.{Form}
@@ -7,9 +7,9 @@ use Rattle.hb_types.specs.declared.table.Form.TheVariants as form
 use Rattle.hb_types.specs.declared.atom.Atom.TheVariants as atom
 use Rattle.hb_types.specs.Finite.{Finite, Single, Applied}
 use Rattle.hb_types.specs.Instance.{instance, values}
-use Rattle.hb_types.specs.Types.{Ty}
+use Rattle.hb_types.specs.Types.{Ty, Unknown}
 use Rattle.hb_types.specs.Tables.{type_at, built, HasPartsBelow}
-use Rattle.hb_types.proofs.TableLemmas.{type_at-left, type_at-last}
+use Rattle.hb_types.proofs.TableLemmas.{type_at-left, type_at-last, extends-more}
 use Rattle.hb_unknowns.specs.declared.node.Entry.{Entry}
 use Rattle.hb_unknowns.specs.declared.node.Node.{Node}
 use Rattle.hb_unknowns.specs.declared.node.Node.TheVariants.{Free, Link, Leaf, Apply}
@@ -22,7 +22,7 @@ use Rattle.hb_unknowns.specs.Graph.{Says, Within, Obeys, IsGraph, Agree, Unified
 use Rattle.hb_unknowns.specs.Order.{marked, IsPart, Member, AllBelow, AreClear, IsReached}
 use Rattle.hb_unknowns.specs.Referred.{flag_at, AreReferred, AreRaised, IsHarmless}
 use Rattle.hb_unknowns.specs.Trail.{restored, written_places, AreInside, IsTracked}
-use Rattle.hb_unknowns.specs.Equations.{Equations, Solves, IsSound, IsOwn, IsPut, AreEqual, AreEquated, IsEquated, HaveNoSolution, HasNoSolution, IsTaken, equations, node_of}
+use Rattle.hb_unknowns.specs.Equations.{Equations, Solves, IsSound, IsOwn, IsPut, AreEqual, AreEquated, IsEquated, HaveNoSolution, HasNoSolution, IsGrown, IsTaken, equations, node_of}
 use Rattle.hb_unknowns.proofs.ReferredLemmas.{referred-taken}
 use Rattle.hb_unknowns.proofs.ValueLemmas.{obeys-same}
 use Rattle.hb_unknowns.proofs.SolvedLemmas.{AreKept, reached-solved}
@@ -120,6 +120,7 @@ sound-taken types entries new pairs g t = record {
   size = g.size ∙ sym t.size;
   means = λ v o k h. g.means v ((t.same v).1 o).0 k h;
   solution = t.solution;
+  own = g.own;
 }
 
 -- one more entry
@@ -196,6 +197,11 @@ built-says v types place (form.Unknown n) h own e s = ap v (sym own)
 built-says v types place (form.Leaf a) h own e s = s
 built-says v types place (form.Apply f x) h own e s = s ∙ ap (λ u. Applied u (v x)) (e f h.0) ∙ ap (λ u. Applied (instance v (type_at types f)) u) (e x h.1)
 
+own-built : (types : List Ty) (place m : ℕ) (n : Form) → IsOwn place n → built types n ≡ Unknown m → m ≡ place
+own-built types place m (form.Unknown n) own e = let same : n ≡ m = cc in sym same ∙ own
+own-built types place m (form.Leaf a) own e = absurd (cc)
+own-built types place m (form.Apply f x) own e = absurd (cc)
+
 record IsAdded (types : List Ty) (entries : List Entry) (n : Form) (level : ℕ) : Type 0 where
   pub sound : IsSound (equations (types ++ built types n ∷ []) (entries ++ record { node = node_of n; level = level } ∷ []))
   pub same : (s : ℕ → Finite) → Solves s (equations (types ++ built types n ∷ []) (entries ++ record { node = node_of n; level = level } ∷ [])) ↔ Solves s (equations types entries)
@@ -236,6 +242,13 @@ added types entries n level g h own =
             ap v last ∙ built-says v types (length types) n h own before said ∙ ap (instance v) (sym (type_at-last types (built types n) k last)))
             (cases_lt k (length types));
         solution = (values g.solution.0 (types ++ built types n ∷ []), (added-same types entries n level g h g.solution.0).1 old);
+        own = λ k m lt u.
+            ⊎_elim
+            (λ less. g.own k m less (sym (type_at-left types (built types n) k less) ∙ u))
+            (λ ge.
+            let last : k ≡ length types = omega (arith, lt, ge, length-append types (built types n ∷ [])) in
+            own-built types (length types) m n own (sym (type_at-last types (built types n) k last) ∙ u) ∙ sym last)
+            (cases_lt k (length types));
       };
       same = λ s. added-same types entries n level g h s;
     }
@@ -267,6 +280,19 @@ put-of state types new_types entries new_entries n node level place s g e p q at
     subst (λ (st : Equations). IsPut st (equations new_types new_entries) (built st.types n) place) s
     (record { next = at; types = p; same = rw (p, q, e) (added types entries n level g h own).same })
 
+-- types that are put one after another
+pub grown-same : (old new : Equations) → new ≡ old → IsGrown old new
+grown-same old new e = rw e (record { types = ([], sym (append-nil old.types)); same = λ s. (λ h. h, λ h. h) })
+
+pub grown-put : (old new : Equations) (t : Ty) (place : ℕ) → IsPut old new t place → IsGrown old new
+grown-put old new t place p = record { types = (t ∷ [], p.types); same = p.same }
+
+pub grown-more : (a b c : Equations) → IsGrown a b → IsGrown b c → IsGrown a c
+grown-more a b c p q = record {
+  types = extends-more a.types b.types c.types p.types q.types;
+  same = λ s. (λ h. (p.same s).0 ((q.same s).0 h), λ h. (q.same s).1 ((p.same s).1 h));
+}
+
 no-form : (k : ℕ) → at [] k ≡ Free
 no-form zero = refl
 no-form (suc k) = refl
@@ -277,6 +303,7 @@ sound-none types entries e f = rw (e, f) (record {
   size = refl;
   means = λ v o k h. absurd (omega (arith, h));
   solution = ((λ k. Single (atom.Nat 0)), record { each = λ k. tt });
+  own = λ k n h u. absurd (omega (arith, h));
 })
 
 pub clear-none : (entries : List Entry) (marks : List Mark) → entries ≡ [] → marks ≡ [] → AreClear entries marks

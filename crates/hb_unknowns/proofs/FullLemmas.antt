@@ -8,8 +8,8 @@ use Rattle.hb_types.specs.Finite.{Finite, Single, Applied}
 use Rattle.hb_types.specs.Instance.{instance, values, EachUnknown, IsKnown}
 use Rattle.hb_types.specs.Types as tree
 use Rattle.hb_types.specs.Types.{Ty}
-use Rattle.hb_types.specs.Tables.{type_at}
-use Rattle.hb_types.proofs.TableLemmas.{type_at-last}
+use Rattle.hb_types.specs.Tables.{type_at, Extends, IsPlaced}
+use Rattle.hb_types.proofs.TableLemmas.{type_at-last, more-types}
 use Rattle.hb_unknowns.specs.declared.node.Entry.{Entry}
 use Rattle.hb_unknowns.specs.declared.node.Node.{Node}
 use Rattle.hb_unknowns.specs.declared.node.Node.TheVariants.{Free, Link, Leaf, Apply}
@@ -17,7 +17,7 @@ use Rattle.hb_unknowns.specs.declared.full.Found.{Found}
 use Rattle.hb_unknowns.specs.Joined.{at}
 use Rattle.hb_unknowns.specs.Graph.{Says, Obeys, IsGraph}
 use Rattle.hb_unknowns.specs.Order.{IsPart, Member, AreSorted, AllBelow}
-use Rattle.hb_unknowns.specs.Full.{IsOpen, IsFound, AreFound, IsOrder, Extends, found_at, IsFull, IsSame, IsUnforced, IsPlaced, AreFullBelow}
+use Rattle.hb_unknowns.specs.Full.{IsOpen, IsFreeNode, IsFound, AreFound, IsOrder, found_at, IsFull, IsSame, IsUnforced, AreFullBelow}
 use Rattle.hb_unknowns.specs.Equations.{Equations, IsSound, equations}
 use Rattle.hb_unknowns.proofs.EquationLemmas.{solves-of}
 use Rattle.hb_unknowns.proofs.SolvedLemmas.{rank, rank-part}
@@ -84,7 +84,7 @@ abbrev two : ℕ → Finite
 two k = Applied (Single (atom.Nat 0)) (Single (atom.Nat 0))
 
 -- a free node is of no one type
-free-open : (nodes : List Entry) (v : ℕ → Finite) (k : ℕ) → IsGraph nodes → Obeys v nodes → at nodes k ≡ Free → IsOpen nodes k
+pub free-open : (nodes : List Entry) (v : ℕ → Finite) (k : ℕ) → IsGraph nodes → Obeys v nodes → at nodes k ≡ Free → IsOpen nodes k
 free-open nodes v k g o e c all =
     let bad : Path Finite (Single (atom.Nat 0)) (Applied (Single (atom.Nat 0)) (Single (atom.Nat 0))) =
     sym (with_free-is nodes v one k e) ∙ all (with_free nodes v one) (with_free-obeys nodes v one g o)
@@ -122,12 +122,6 @@ open-both nodes k f x t u true true e p q = (p, q)
 open-both nodes k f x t u true false e p q = λ c all. q (right_of c c) (λ v o. right-of c (v f) (v x) (sym (says-at nodes v k (Apply f x) e o) ∙ all v o))
 open-both nodes k f x t u false b e p q = λ c all. p (left_of c c) (λ v o. left-of c (v f) (v x) (sym (says-at nodes v k (Apply f x) e o) ∙ all v o))
 
-pub more-types : (table new : List Ty) (k : ℕ) → Extends table new → k < length table → (type_at new k ≡ type_at table k) × (k < length new)
-more-types table new k x h = (
-  ap (λ ts. type_at ts k) x.1 ∙ get_or_append_left table x.0 (tree.Unknown 0) k h,
-  omega (arith, h, ap length x.1, length-append table x.0),
-)
-
 pub found-more : (nodes : List Entry) (table new : List Ty) (k : ℕ) (f : Found) → Extends table new → IsFound nodes table k f → IsFound nodes new k f
 found-more nodes table new k f x r =
     let same = more-types table new f.place x r.inside in
@@ -135,16 +129,18 @@ found-more nodes table new k f x r =
       inside = same.1;
       means = λ v o. r.means v o ∙ ap (instance v) (sym same.0);
       known = subst (λ (t : Ty). MatchBool f.known (IsKnown t) (IsOpen nodes k)) (sym same.0) r.known;
+      free = subst (EachUnknown (IsFreeNode nodes)) (sym same.0) r.free;
     }
 
-pub found-free : (nodes : List Entry) (table new : List Ty) (k place : ℕ) (v : ℕ → Finite) → IsGraph nodes → Obeys v nodes → at nodes k ≡ Free → place ≡ length table →
-    new ≡ table ++ tree.Unknown k ∷ [] → IsFound nodes new k (record { place = place; known = false })
-found-free nodes table new k place v g o e p q =
+pub found-free : (nodes : List Entry) (table new : List Ty) (k place : ℕ) (v : ℕ → Finite) → IsGraph nodes → Obeys v nodes → k < length nodes → at nodes k ≡ Free →
+    place ≡ length table → new ≡ table ++ tree.Unknown k ∷ [] → IsFound nodes new k (record { place = place; known = false })
+found-free nodes table new k place v g o h e p q =
     let is : type_at new place ≡ tree.Unknown k = ap (λ ts. type_at ts place) q ∙ type_at-last table (tree.Unknown k) place p in
     record {
       inside = omega (arith, p, ap length q, length-append table (tree.Unknown k ∷ []));
-      means = λ w h. ap (instance w) (sym is);
+      means = λ w obeys. ap (instance w) (sym is);
       known = free-open nodes v k g o e;
+      free = subst (EachUnknown (IsFreeNode nodes)) (sym is) (h, e);
     }
 
 pub found-link : (nodes : List Entry) (table : List Ty) (k part : ℕ) (f : Found) → at nodes k ≡ Link part → IsFound nodes table part f → IsFound nodes table k f
@@ -152,6 +148,7 @@ found-link nodes table k part f e r = record {
   inside = r.inside;
   means = λ v o. says-at nodes v k (Link part) e o ∙ r.means v o;
   known = open-link nodes k part f.known (type_at table f.place) e r.known;
+  free = r.free;
 }
 
 pub found-apply : (nodes : List Entry) (table new : List Ty) (k place f x : ℕ) (p q : Found) (b : Bool) → at nodes k ≡ Apply f x → place ≡ length table →
@@ -168,6 +165,7 @@ found-apply nodes table new k place f x p q b e h is known r s =
       known = subst (λ (t : Ty). MatchBool b (IsKnown t) (IsOpen nodes k)) (sym here)
           (subst (λ (c : Bool). MatchBool c (IsKnown (tree.Apply (type_at table p.place) (type_at table q.place))) (IsOpen nodes k)) (sym known)
           (open-both nodes k f x (type_at table p.place) (type_at table q.place) p.known q.known e r.known s.known));
+      free = subst (EachUnknown (IsFreeNode nodes)) (sym here) (r.free, s.free);
     }
 
 -- the nodes so far are found

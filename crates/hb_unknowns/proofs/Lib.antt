@@ -7,3 +7,4 @@ pub mod ReferredLemmas
 pub mod SolvedLemmas
 pub mod TrailLemmas
 pub mod ValueLemmas
+pub mod NormalLemmas

@@ -4,8 +4,8 @@ use Rattle.hb_types.specs.declared.table.Form.{Form}
 use Rattle.hb_types.specs.declared.table.Form.TheVariants as form
 use Rattle.hb_types.specs.Finite.{Finite}
 use Rattle.hb_types.specs.Instance.{instance, values}
-use Rattle.hb_types.specs.Types.{Ty}
-use Rattle.hb_types.specs.Tables.{type_at}
+use Rattle.hb_types.specs.Types.{Ty, Unknown}
+use Rattle.hb_types.specs.Tables.{type_at, Extends}
 use Rattle.hb_unknowns.specs.declared.node.Entry.{Entry}
 use Rattle.hb_unknowns.specs.declared.node.Node.{Node}
 use Rattle.hb_unknowns.specs.declared.node.Node.TheVariants.{Free, Leaf, Apply}
@@ -27,12 +27,13 @@ type_count e = length e.types
 abbrev pub Solves : (ℕ → Finite) → Equations → Type 0
 Solves s e = Obeys (values s e.types) e.entries
 
--- whatever obeys the graph has at each place the type that stands there
+-- whatever obeys the graph has at each place the type that stands there, and an unknown stands at its own place
 pub record IsSound (e : Equations) : Type 0 where
   pub graph : IsGraph e.entries
   pub size : length e.types ≡ length e.entries
   pub means : (v : ℕ → Finite) → Obeys v e.entries → (k : ℕ) → k < length e.types → v k ≡ instance v (type_at e.types k)
   pub solution : (v : ℕ → Finite) × Obeys v e.entries
+  pub own : (k n : ℕ) → k < length e.types → type_at e.types k ≡ Unknown n → n ≡ k
 
 abbrev pub equations : List Ty → List Entry → Equations
 equations types entries = record { types = types; entries = entries }
@@ -47,6 +48,11 @@ IsOwn place (form.Apply f x) = Unit {0}
 pub record IsPut (old new : Equations) (t : Ty) (place : ℕ) : Type 0 where
   pub next : place ≡ type_count old
   pub types : new.types ≡ old.types ++ t ∷ []
+  pub same : (s : ℕ → Finite) → Solves s new ↔ Solves s old
+
+-- more types, which change nothing that was said
+pub record IsGrown (old new : Equations) : Type 0 where
+  pub types : Extends old.types new.types
   pub same : (s : ℕ → Finite) → Solves s new ↔ Solves s old
 
 -- the types at two places are the same, for each of the pairs

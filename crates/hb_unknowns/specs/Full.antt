@@ -2,10 +2,12 @@
 use Rattle.std.specs.Prelude.{◌≡◌, ℕ, ◌<◌, ◌⊎◌, List, ◌++◌, length, slice_index, slice_index_or, false, MatchBool}
 use Rattle.hb_types.specs.Finite.{Finite}
 use Rattle.hb_types.specs.Types.{Ty, Unknown, Leaf, Apply}
-use Rattle.hb_types.specs.Tables.{type_at}
+use Rattle.hb_types.specs.Tables.{type_at, IsPlaced}
 use Rattle.hb_types.specs.Instance.{instance, EachUnknown, IsKnown}
 use Rattle.hb_unknowns.specs.declared.node.Entry.{Entry}
+use Rattle.hb_unknowns.specs.declared.node.Node.TheVariants.{Free}
 use Rattle.hb_unknowns.specs.declared.full.Found.{Found}
+use Rattle.hb_unknowns.specs.Joined.{at}
 use Rattle.hb_unknowns.specs.Graph.{Obeys}
 use Rattle.hb_unknowns.specs.Order.{Member, AreSorted, AllBelow}
 use Rattle.hb_unknowns.specs.Equations.{Equations, Solves, type_count}
@@ -36,15 +38,16 @@ pub record IsFull (e : Equations) (t r : Ty) : Type 0 where
 abbrev pub IsOpen : List Entry → ℕ → Type 0
 IsOpen nodes place = (c : Finite) → ((v : ℕ → Finite) → Obeys v nodes → v place ≡ c) → ⊥
 
--- the type that was found for a node, and whether it has no unknowns
+-- nothing is known of the node
+abbrev pub IsFreeNode : List Entry → ℕ → Type 0
+IsFreeNode nodes node = (node < length nodes) × (at nodes node ≡ Free)
+
+-- the type that was found for a node, and whether it has no unknowns: those that it has are free nodes
 pub record IsFound (nodes : List Entry) (table : List Ty) (node : ℕ) (found : Found) : Type 0 where
   pub inside : found.place < length table
   pub means : (v : ℕ → Finite) → Obeys v nodes → v node ≡ instance v (type_at table found.place)
   pub known : MatchBool found.known (IsKnown (type_at table found.place)) (IsOpen nodes node)
-
--- a table with more types at its end
-abbrev pub Extends : List Ty → List Ty → Type 0
-Extends old new = (more : List Ty) × (new ≡ old ++ more)
+  pub free : EachUnknown (IsFreeNode nodes) (type_at table found.place)
 
 -- every node once its parts are there
 pub record IsOrder (nodes : List Entry) (order : List ℕ) : Type 0 where
@@ -57,10 +60,6 @@ found_at found node = slice_index_or found node (record { place = 0; known = fal
 
 pub record AreFound (nodes : List Entry) (table : List Ty) (found : List Found) : Type 0 where
   pub each : (k : ℕ) → k < length nodes → IsFound nodes table k (found_at found k)
-
--- a place of a table, at which the type is as P says
-abbrev pub IsPlaced : List Ty → ℕ → (Ty → Type 0) → Type 0
-IsPlaced table place P = (place < length table) × P (type_at table place)
 
 -- the places before one have their full types
 pub record AreFullBelow (e : Equations) (count : ℕ) (table : List Ty) (places : List ℕ) : Type 0 where

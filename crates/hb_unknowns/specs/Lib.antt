@@ -3,6 +3,7 @@ pub mod EquationCodes
 pub mod Full
 pub mod Graph
 pub mod Joined
+pub mod Normal
 pub mod Order
 pub mod Referred
 pub mod Trail

@@ -1,11 +1,11 @@
 ghost use Rattle.std.specs.Prelude.{◌≡◌, ◌&&◌, ℕ, [], ◌<◌, length, reverse, IfOk};
 ghost use Rattle.hb_types.specs.Finite.{Finite};
-ghost use Rattle.hb_types.specs.Tables.{type_at};
+ghost use Rattle.hb_types.specs.Tables.{type_at, Extends, IsPlaced};
 ghost use Rattle.hb_unknowns.specs.Joined.{at};
 ghost use Rattle.hb_unknowns.specs.Graph.{Obeys, IsGraph};
 ghost use Rattle.hb_unknowns.specs.Order.{IsPart, Member};
 ghost use Rattle.hb_unknowns.specs.Equations.{IsSound, equations};
-ghost use Rattle.hb_unknowns.specs.Full.{IsFound, IsOrder, IsFull, AreFull, Extends, found_at, AreFound, AreFullBelow, IsPlaced};
+ghost use Rattle.hb_unknowns.specs.Full.{IsFound, IsOrder, IsFull, AreFull, found_at, AreFound, AreFullBelow};
 
 use crate::node::{Entry, Node, node_at};
 use crate::order::sorted;
@@ -20,7 +20,7 @@ pub struct Found {
     pub known: bool,
 }
 
-fn found_at(found: &[Found], node: usize) -> Found
+pub fn found_at(found: &[Found], node: usize) -> Found
     ensures { result ≡ found_at found.now node }
 {
     match found.get(node) {
@@ -42,6 +42,7 @@ fn both(first: bool, second: bool) -> bool
 fn find(entries: &[Entry], types: &mut Types, found: &[Found], node: usize) -> Result<Found, Memory>
     requires graph { IsGraph entries.now }
     requires solution { (v : ℕ → Finite) × Obeys v entries.now }
+    requires inside { node < length entries.now }
     requires parts { (p : ℕ) → IsPart p (at entries.now node) → IsFound entries.now types.old p (found_at found.now p) }
     ensures more { IfOk result (λ one. Extends types.old types.new) }
     ensures found { IfOk result (IsFound entries.now types.new node) }
@@ -70,7 +71,7 @@ fn find(entries: &[Entry], types: &mut Types, found: &[Found], node: usize) -> R
 }
 
 /// Puts the types of all nodes, and answers for each node its type.
-fn find_all(
+pub fn find_all(
     alloc: Global,
     entries: &[Entry],
     order: &[usize],

@@ -6,7 +6,9 @@ mod error;
 mod full;
 mod graph;
 mod node;
+mod normal;
 mod order;
+mod put;
 mod referred;
 mod taking;
 #[cfg(test)]
@@ -17,4 +19,5 @@ mod unknowns;
 pub use error::EquateError;
 pub use full::FullTypes;
 pub use node::Pair;
+pub use normal::NormalTypes;
 pub use unknowns::Unknowns;

@@ -4,11 +4,13 @@ ghost use Rattle.hb_types.specs.Types as tree;
 ghost use Rattle.hb_types.specs.Tables.{type_at, built, HasPartsBelow};
 ghost use Rattle.hb_unknowns.specs.Full.{AreFull};
 ghost use Rattle.hb_unknowns.specs.Graph.{AreWithin};
+ghost use Rattle.hb_unknowns.specs.Normal.{AreNormal};
 ghost use Rattle.hb_unknowns.specs.Equations.{type_count, Solves, IsOwn, IsPut, IsEquated, AreEquated, HasNoSolution, HaveNoSolution, OnClash, equations, node_of};
 
 use crate::error::EquateError;
 use crate::full::{FullTypes, replace_all};
 use crate::node::{Entry, Node, Pair};
+use crate::normal::{NormalTypes, node_types};
 use crate::order::Mark;
 use crate::referred::refer;
 use crate::taking::take_in;
@@ -81,7 +83,7 @@ impl Unknowns {
         self.types.len()
     }
 
-    fn put(&mut self, form: Form) -> Result<usize, Memory>
+    fn push(&mut self, form: Form) -> Result<usize, Memory>
         requires parts { HasPartsBelow (type_count self.old) form }
         requires own { IsOwn (type_count self.old) form }
         ensures ok { IfOk result (IsPut self.old self.new (built self.old.types form)) }
@@ -129,7 +131,7 @@ impl Unknowns {
     {
         drop(kind);
         let number = self.len();
-        let place = self.put(Form::Unknown(number as u64))?;
+        let place = self.push(Form::Unknown(number as u64))?;
         Ok(place)
     }
 
@@ -138,7 +140,7 @@ impl Unknowns {
         ensures ok { IfOk result (IsPut self.old self.new (tree.Leaf atom)) }
         ensures same { OnErr result (self.new ≡ self.old) }
     {
-        let place = self.put(Form::Leaf(atom))?;
+        let place = self.push(Form::Leaf(atom))?;
         Ok(place)
     }
 
@@ -149,7 +151,7 @@ impl Unknowns {
         ensures ok { IfOk result (IsPut self.old self.new (tree.Apply (type_at self.old.types f) (type_at self.old.types x))) }
         ensures same { OnErr result (self.new ≡ self.old) }
     {
-        let place = self.put(Form::Apply(f, x))?;
+        let place = self.push(Form::Apply(f, x))?;
         Ok(place)
     }
 
@@ -212,6 +214,20 @@ impl Unknowns {
         let mut types = Types::new(alloc);
         let places = replace_all(alloc, &self.types, &self.entries, &mut types)?;
         Ok(FullTypes {
+            types,
+            places: List::of(places),
+        })
+    }
+
+    /// The types of all places with each unknown that was equated replaced as far as it is known: of several open ones
+    /// that were equated, one stands for all. Two places have the same type in all solutions exactly where their normal
+    /// types are the same.
+    pub fn normal(&self, alloc: Global) -> Result<NormalTypes, Memory>
+        ensures normal { IfOk result (λ r. AreNormal self.now r.types r.places) }
+    {
+        let mut types = Types::new(alloc);
+        let places = node_types(alloc, &self.entries, &mut types)?;
+        Ok(NormalTypes {
             types,
             places: List::of(places),
         })

@@ -7,7 +7,7 @@ use Rattle.hb_unknowns.proofs.full.find.Goals as goal
 pub returns-in_ok-place-in-Free-clause-found : goal.returns-in_ok-place-in-Free-clause-found
 returns-in_ok-place-in-Free-clause-found c =
     let is : at c.args.entries.now c.args.node ≡ Free = sym c.node_at.ensures ∙ c.in-Free.is in
-    found-free c.args.entries.now c.args.types.now c.push.new.self c.args.node c.in_ok-place-in-Free.place c.requires.solution.0 c.requires.graph c.requires.solution.1 is
+    found-free c.args.entries.now c.args.types.now c.push.new.self c.args.node c.in_ok-place-in-Free.place c.requires.solution.0 c.requires.graph c.requires.solution.1 c.requires.inside is
     c.in_ok-place-in-Free.ensures.place c.in_ok-place-in-Free.ensures.ok
 
 pub returns-in-Link-clause-found : goal.returns-in-Link-clause-found

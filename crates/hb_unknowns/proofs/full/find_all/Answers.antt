@@ -8,6 +8,12 @@ find-requires-clause-parts c =
     let value = c.deref.ensures.value in
     rw value (λ p i. c.loop-node.invariant.each p (parts-before c.args.entries.now c.args.order.now c.loop-node.node-index p c.requires.order.sorted (omega arith) i))
 
+pub find-requires-clause-inside : goal.find-requires-clause-inside
+find-requires-clause-inside c =
+    let less : get_or c.args.order.now c.loop-node.node-index 0 < length c.args.entries.now =
+    below-at (length c.args.entries.now) c.args.order.now c.loop-node.node-index 0 (below-reverse (length c.args.entries.now) c.args.order.now c.requires.order.within) (omega arith) in
+    less
+
 pub index_mut-requires : goal.index_mut-requires
 index_mut-requires c =
     let less : get_or c.args.order.now c.loop-node.node-index 0 < length c.args.entries.now =

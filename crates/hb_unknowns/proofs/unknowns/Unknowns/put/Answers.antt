@@ -1,18 +1,20 @@
-use Rattle.hb_unknowns.proofs.EquationLemmas.{sound-put, put-of, clear-push}
-use Rattle.hb_unknowns.proofs.ReferredLemmas.{referred-put}
+use Rattle.hb_types.specs.Put.{types_at}
+use Rattle.hb_types.proofs.PutLemmas.{types_at-more, put-next}
+use Rattle.hb_unknowns.proofs.EquationLemmas.{grown-more}
 use Rattle.hb_unknowns.proofs.unknowns.Unknowns.put.Goals as goal
 
-pub invariant_of-self-in-Ok-push-2 : goal.invariant_of-self-in-Ok-push-2
-invariant_of-self-in-Ok-push-2 c = (
-  sound-put c.self.inside.types c.push-4.new.self c.self.inside.entries.items c.push.new.self.items c.args.form c.node_of.result 63 c.self.invariant.0 c.node_of.ensures
-      c.in-Ok-push-2.ensures.ok c.in_ok-push.ensures.items (rw (← c.self.view_is) at c.requires.parts) (rw (← c.self.view_is) at c.requires.own),
-  rw (c.in_ok-push.ensures.items, c.in-Ok.ensures.items) (clear-push c.self.inside.entries.items c.self.inside.marks.items _ c.self.invariant.1),
-  rw c.in_ok-push.ensures.items
-      (referred-put c.self.inside.entries.items _ c.self.inside.referred.items c.refer.new.referred.items c.self.invariant.0.graph c.self.invariant.2 (rw c.in-Ok-push.ensures.items at c.refer.ensures.raised)
-      c.refer.ensures.parts),
-)
+pub put_one-requires-clause-parts : goal.put_one-requires-clause-parts
+put_one-requires-clause-parts c =
+    let same = types_at-more c.args.self.now.types c.loop-place.self.types c.args.args.now c.loop-place.invariant.0.types c.requires.args in
+    rw (same, c.deref.ensures.value) c.loop-place.invariant.1
 
-pub returns-in-Ok-push-2-clause-ok : goal.returns-in-Ok-push-2-clause-ok
-returns-in-Ok-push-2-clause-ok c =
-    put-of c.args.self.now c.self.inside.types c.push-4.new.self c.self.inside.entries.items c.push.new.self.items c.args.form c.node_of.result 63 c.in-Ok-push-2.place c.self.view_is
-    c.self.invariant.0 c.node_of.ensures c.in-Ok-push-2.ensures.ok c.in_ok-push.ensures.items c.in-Ok-push-2.ensures.place (rw (← c.self.view_is) at c.requires.parts) (rw (← c.self.view_is) at c.requires.own)
+pub returns-in_err-push-clause-grown : goal.returns-in_err-push-clause-grown
+returns-in_err-push-clause-grown c = grown-more c.args.self.now c.loop-place.self c.put_one.new.self c.loop-place.invariant.0 c.in_ok-here.ensures.grown
+
+pub loop-place-preserved : goal.loop-place-preserved
+loop-place-preserved c =
+    let same = types_at-more c.args.self.now.types c.loop-place.self.types c.args.args.now c.loop-place.invariant.0.types c.requires.args in (
+      grown-more c.args.self.now c.loop-place.self c.put_one.new.self c.loop-place.invariant.0 c.in_ok-here.ensures.grown,
+      put-next c.loop-place.place (types_at c.args.self.now.types c.args.args.now) c.args.of.now c.loop-place.self.types c.put_one.new.self.types c.loop-place.places.items c.push.new.self.items
+          c.in_ok-here.here c.in_ok-here.ensures.grown.types c.loop-place.invariant.1 c.in_ok-push.ensures.items (rw same at c.in_ok-here.ensures.put),
+    )

@@ -1,0 +1,5 @@
+use Rattle.std.proofs.Common.{◌≡◌, ◌+◌, ◌++◌, length, take}
+use Rattle.hb_types.proofs.kind_table.Kinds.append.Given as goal
+
+abbrev pub invariant-loop-place : goal.invariant-loop-place
+invariant-loop-place l = (l.self ≡ l.initial.self ++ take l.place l.of) × (length l.self ≡ length l.initial.self + l.place)
