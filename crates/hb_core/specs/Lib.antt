@@ -18,3 +18,5 @@ pub mod Entailment
 pub mod PatternTypes
 pub mod ExpressionTypes
 pub mod SourceTypes
+pub mod Demands
+pub mod Forced
