@@ -20,3 +20,4 @@ pub mod ExpressionTypes
 pub mod SourceTypes
 pub mod Demands
 pub mod Forced
+pub mod Typed
