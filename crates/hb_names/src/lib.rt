@@ -3,6 +3,10 @@
 
 mod prelude;
 mod reading;
+#[cfg(test)]
+mod tables;
+#[cfg(test)]
+mod tests;
 
 pub use prelude::read_prelude;
 pub use reading::read_resolved;

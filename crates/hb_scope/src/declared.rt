@@ -8,7 +8,7 @@ use hb_tree::{BitCon, BitPart, DataCon, Decl, FieldDecl, NameAt, Sig, StructPart
 use std::alloc::Global;
 
 /// What a program declares. Where a name is declared twice, the first declaration counts.
-#[derive(Debug, Drop)]
+#[derive(Drop)]
 pub(crate) struct Declared {
     pub(crate) variables: Meanings,
     pub(crate) constructors: Meanings,
@@ -17,6 +17,8 @@ pub(crate) struct Declared {
     pub(crate) labels: NameSet,
     pub(crate) signed: NameSet,
     pub(crate) defined: NameSet,
+    /// The primitives, methods, areas and ports.
+    others: NameSet,
     /// The names of which a fixity is declared.
     grouped: NameSet,
     /// The names of one list.
@@ -25,25 +27,17 @@ pub(crate) struct Declared {
     cons: u32,
 }
 
-/// The meanings of variables before any declaration: those of the primitives.
-fn primitives(alloc: Global, names: u32) -> Result<Meanings, Memory> {
-    let mut variables = Meanings::new(alloc, names)?;
-    for number in 0..fixed::PRIMITIVES {
-        variables.put(Name(fixed::FIRST_PRIMITIVE + number), Target::Prim(number));
-    }
-    Ok(variables)
-}
-
 impl Declared {
-    /// So many names, of which what no program declares is known.
-    pub(crate) fn new(alloc: Global, names: u32) -> Result<Declared, Memory> {
+    /// So many names, of which nothing is declared.
+    fn empty(alloc: Global, names: u32) -> Result<Declared, Memory> {
         Ok(Declared {
-            variables: primitives(alloc, names)?,
+            variables: Meanings::new(alloc, names)?,
             constructors: Meanings::new(alloc, names)?,
             sorts: Sorts::new(alloc, names)?,
             labels: NameSet::new(alloc, names)?,
             signed: NameSet::new(alloc, names)?,
             defined: NameSet::new(alloc, names)?,
+            others: NameSet::new(alloc, names)?,
             grouped: NameSet::new(alloc, names)?,
             listed: NameSet::new(alloc, names)?,
             methods: 0,
@@ -51,10 +45,20 @@ impl Declared {
         })
     }
 
-    /// A signature is a declaration of its name, but for the definition that it belongs to.
+    /// So many names, of which what no program declares is known.
+    pub(crate) fn new(alloc: Global, names: u32) -> Result<Declared, Memory> {
+        let mut declared = Declared::empty(alloc, names)?;
+        for number in 0..fixed::PRIMITIVES {
+            let name = Name(fixed::FIRST_PRIMITIVE + number);
+            declared.variables.declare(name, Target::Prim(number));
+            declared.others.put(name);
+        }
+        Ok(declared)
+    }
+
+    /// A signature and the definition that it belongs to are one declaration.
     fn sign(&mut self, at: NameAt, faults: &mut Faults) {
-        let is_other = self.variables.is_known(at.name) && !self.defined.has(at.name);
-        if self.signed.put(at.name) || is_other {
+        if self.signed.put(at.name) || self.others.has(at.name) {
             faults.put_twice(at.place, at.name);
         }
     }
@@ -67,16 +71,16 @@ impl Declared {
 
     /// A definition of this declaration.
     fn define(&mut self, place: Place, name: Name, number: u32, faults: &mut Faults) {
-        if self.variables.is_known(name) {
+        if self.defined.put(name) || self.others.has(name) {
             faults.put_twice(place, name);
         }
         self.variables.declare(name, Target::Top(number));
-        self.defined.put(name);
     }
 
     /// A method, an area or a port, which has no signature.
     fn declare(&mut self, at: NameAt, target: Target, faults: &mut Faults) {
-        if self.variables.is_known(at.name) || self.signed.has(at.name) {
+        let is_other = self.others.put(at.name);
+        if is_other || self.signed.has(at.name) || self.defined.has(at.name) {
             faults.put_twice(at.place, at.name);
         }
         self.variables.declare(at.name, target);

@@ -4,7 +4,7 @@ use hb_tree::NameAt;
 
 /// The earliest fault of each rule so far: a name that means nothing, a name that comes twice, operators that group in no way,
 /// and a definition or a signature without the other. Of faults at one place the one that was met first stays.
-#[derive(Clone, Copy, Debug, PartialEq, Eq)]
+#[derive(Clone, Copy)]
 pub(crate) struct Faults {
     pub(crate) unbound: Option<NameAt>,
     pub(crate) twice: Option<NameAt>,

@@ -3,7 +3,7 @@ use hb_resolved::Target;
 use std::alloc::Global;
 
 /// What names mean, by their numbers.
-#[derive(Debug, Drop)]
+#[derive(Drop)]
 pub(crate) struct Meanings {
     targets: Vec<Target>,
 }

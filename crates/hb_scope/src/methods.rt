@@ -5,7 +5,7 @@ use hb_tree::{Bind, Decl, Sig};
 use std::alloc::Global;
 
 /// The methods of all classes, each with its class, in the order of their numbers.
-#[derive(Debug, Drop)]
+#[derive(Drop)]
 pub(crate) struct Methods {
     /// The numbers of the names of class and method.
     pairs: Vec<(u32, u32)>,

@@ -2,7 +2,7 @@ use hb_base::{Memory, Name};
 use std::alloc::Global;
 
 /// A set of names. A name is in it where its stamp is the one of now, so it is emptied in one step.
-#[derive(Debug, Drop)]
+#[derive(Drop)]
 pub(crate) struct NameSet {
     stamps: Vec<u64>,
     now: u64,

@@ -12,7 +12,7 @@ use hb_tree::Program;
 use std::alloc::Global;
 
 /// What is found in a settled program: the targets of its nodes, and the earliest fault of each rule.
-#[derive(Debug, Drop)]
+#[derive(Drop)]
 struct Found {
     targets: List<Target>,
     faults: Faults,

@@ -2,7 +2,7 @@ use hb_base::{Memory, Name, fixed};
 use std::alloc::Global;
 
 /// What a name of types and classes is. `Fact` is a predicate that no class declares.
-#[derive(Clone, Copy, Debug, PartialEq, Eq)]
+#[derive(Clone, Copy)]
 pub(crate) enum Sort {
     Unknown,
     Type,
@@ -11,7 +11,7 @@ pub(crate) enum Sort {
 }
 
 /// The names of types and classes, by their numbers.
-#[derive(Debug, Drop)]
+#[derive(Drop)]
 pub(crate) struct Sorts {
     sorts: Vec<Sort>,
 }
@@ -64,7 +64,7 @@ impl Sorts {
 
     /// Declares a name, and answers whether it was declared before. What was declared first stays.
     pub(crate) fn declare(&mut self, name: Name, sort: Sort) -> bool {
-        if self.of(name) != Sort::Unknown {
+        if !matches!(self.of(name), Sort::Unknown) {
             return true;
         }
         if let Some(slot) = self.sorts.get_mut(name.0 as usize) {

@@ -9,7 +9,7 @@ use hb_tree::{
 use std::alloc::Global;
 
 /// Looks at the names in types. Where `closed`, only the variables in `known` may stand there; elsewhere every one may.
-#[derive(Debug, Drop)]
+#[derive(Drop)]
 pub(crate) struct TypeNames {
     sorts: Sorts,
     known: NameSet,
@@ -40,7 +40,7 @@ impl TypeNames {
     }
 
     fn type_name(&self, at: NameAt, faults: &mut Faults) {
-        if self.sorts.of(at.name) != Sort::Type {
+        if !matches!(self.sorts.of(at.name), Sort::Type) {
             faults.put_unbound(at.place, at.name);
         }
     }
@@ -177,7 +177,7 @@ impl TypeNames {
 
     /// An instance is one of a class that a declaration makes.
     fn head(&self, at: NameAt, faults: &mut Faults) {
-        if self.sorts.of(at.name) != Sort::Class {
+        if !matches!(self.sorts.of(at.name), Sort::Class) {
             faults.put_unbound(at.place, at.name);
         }
     }

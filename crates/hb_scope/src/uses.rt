@@ -11,7 +11,7 @@ use std::alloc::Global;
 
 /// Goes over the nodes of a settled program in node order, and tells the target of each. A local name changes what names
 /// mean where it is bound, and `hidden` keeps what to put back behind its scope.
-#[derive(Debug, Drop)]
+#[derive(Drop)]
 pub(crate) struct Uses {
     pub(crate) alloc: Global,
     pub(crate) variables: Meanings,

@@ -1,5 +1,6 @@
--- Which of two places comes first. The places of the prelude stand in line 0, and come after all others.
-use Rattle.std.specs.Prelude.{ℕ, Bool, true, false, nat_lt, nat_eq, Option, Some, None, if◌then◌else◌}
+-- Which of two places comes first, and the earliest of what is met. The places of the prelude stand in line 0, and come after
+-- all others.
+use Rattle.std.specs.Prelude.{ℕ, Bool, true, false, List, [], ◌∷◌, nat_lt, nat_eq, Option, Some, None, if◌then◌else◌}
 use Rattle.hb_base.specs.declared.place.Place.{Place}
 use Rattle.hb_tree.specs.declared.types.NameAt.{NameAt}
 
@@ -13,3 +14,11 @@ is_before a b =
 abbrev pub first_of : Option NameAt → NameAt → NameAt
 first_of None met = met
 first_of (Some first) met = if is_before met.place first.place then met else first
+
+-- the earliest of what was met before and of these; of those at one place the first
+abbrev pub earliest_of : Option NameAt → List NameAt → Option NameAt
+earliest_of known [] = known
+earliest_of known (at ∷ rest) = earliest_of (Some (first_of known at)) rest
+
+abbrev pub earliest : List NameAt → Option NameAt
+earliest all = earliest_of None all

@@ -4,7 +4,7 @@ use hb_tree::{Decl, Program};
 use std::alloc::Global;
 
 /// What each name groups as, by its number: as the first declaration says that speaks of it.
-#[derive(Debug, Drop)]
+#[derive(Drop)]
 pub(crate) struct Fixities {
     declared: Vec<Option<Fixity>>,
 }

@@ -7,7 +7,7 @@ use std::alloc::Global;
 
 /// Numbers nodes in node order: parts come before the whole, a head before its arguments, and the rest from left to right.
 /// `next` is the number of the next node.
-#[derive(Debug, Drop)]
+#[derive(Drop)]
 pub(crate) struct Numbering {
     pub(crate) alloc: Global,
     pub(crate) next: u32,

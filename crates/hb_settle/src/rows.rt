@@ -5,7 +5,7 @@ use std::alloc::Global;
 
 /// The definitions of a block so far, where rows of one name that stand next to each other are one definition. `uneven` is
 /// the earliest row so far that has another number of patterns than the first row of its definition.
-#[derive(Debug, Drop)]
+#[derive(Drop)]
 pub(crate) struct Rows {
     done: List<Bind>,
     open: Option<Bind>,

@@ -12,7 +12,7 @@ use std::alloc::Global;
 
 /// Settles expressions. `uneven` is the earliest row so far that has another number of patterns than the first row of its
 /// definition, and `clash` the earliest operator so far at which a run groups in no way.
-#[derive(Debug, Drop)]
+#[derive(Drop)]
 pub(crate) struct Settler {
     pub(crate) alloc: Global,
     pub(crate) fixities: Fixities,

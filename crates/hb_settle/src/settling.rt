@@ -10,7 +10,7 @@ use std::alloc::Global;
 /// numbered from 0 in node order. `nodes` is their number. `uneven` is the earliest row that has another number of patterns
 /// than the first row of its definition, with the name of the definition, and `clash` the earliest operator for which the run
 /// up to its right operand groups in no way.
-#[derive(Debug, Drop)]
+#[derive(Drop)]
 pub struct Settled {
     pub program: Program,
     pub nodes: u32,

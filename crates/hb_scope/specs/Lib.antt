@@ -1,0 +1,3 @@
+pub mod Unbound
+pub mod Twice
+pub mod FirstRefusal
