@@ -30,6 +30,7 @@ pub(crate) fn copy_pat(alloc: Global, pat: &Pat) -> Result<Pat, Memory> {
 
 /// The same patterns.
 #[cycle(copies)]
+#[tactic(auto, using(crate::proofs::Parts::pat_falls))]
 pub(crate) fn copy_pats(alloc: Global, pats: &[Pat]) -> Result<List<Pat>, Memory> {
     let mut copies = List::of(Vec::new(alloc));
     for pat in pats {
@@ -41,6 +42,7 @@ pub(crate) fn copy_pats(alloc: Global, pats: &[Pat]) -> Result<List<Pat>, Memory
 
 /// The same patterns of fields.
 #[cycle(copies)]
+#[tactic(auto, using(crate::proofs::Parts::field_pat_falls))]
 fn copy_fields(alloc: Global, fields: &[FieldPat]) -> Result<List<FieldPat>, Memory> {
     let mut copies = List::of(Vec::new(alloc));
     for field in fields {

@@ -60,6 +60,7 @@ impl Numbering {
     }
 
     #[cycle(numbering_patterns)]
+    #[tactic(auto, using(crate::proofs::Parts::pat_falls))]
     fn pats(&mut self, all: &[Pat]) -> Result<List<Pat>, Memory> {
         let mut done = List::of(Vec::new(self.alloc));
         for pat in all {
@@ -70,6 +71,7 @@ impl Numbering {
     }
 
     #[cycle(numbering_patterns)]
+    #[tactic(auto, using(crate::proofs::Parts::field_pat_falls))]
     fn field_pats(&mut self, all: &[FieldPat]) -> Result<List<FieldPat>, Memory> {
         let mut done = List::of(Vec::new(self.alloc));
         for field in all {
@@ -180,6 +182,7 @@ impl Numbering {
     }
 
     #[cycle(numbering)]
+    #[tactic(auto, using(crate::proofs::Parts::expr_falls))]
     fn exprs(&mut self, all: &[Expr]) -> Result<List<Expr>, Memory> {
         let mut done = List::of(Vec::new(self.alloc));
         for e in all {
@@ -190,6 +193,7 @@ impl Numbering {
     }
 
     #[cycle(numbering)]
+    #[tactic(auto, using(crate::proofs::Parts::field_falls))]
     fn fields(&mut self, all: &[FieldExpr]) -> Result<List<FieldExpr>, Memory> {
         let mut done = List::of(Vec::new(self.alloc));
         for field in all {
@@ -204,6 +208,7 @@ impl Numbering {
     }
 
     #[cycle(numbering)]
+    #[tactic(auto, using(crate::proofs::Parts::alt_falls))]
     fn alts(&mut self, all: &[Alt]) -> Result<List<Alt>, Memory> {
         let mut done = List::of(Vec::new(self.alloc));
         for alt in all {
@@ -215,6 +220,7 @@ impl Numbering {
     }
 
     #[cycle(numbering)]
+    #[tactic(auto, using(crate::proofs::Parts::stmt_falls))]
     fn stmts(&mut self, all: &[Stmt]) -> Result<List<Stmt>, Memory> {
         let mut done = List::of(Vec::new(self.alloc));
         for stmt in all {
@@ -244,6 +250,7 @@ impl Numbering {
     }
 
     #[cycle(numbering)]
+    #[tactic(auto, using(crate::proofs::Parts::bind_falls))]
     pub(crate) fn binds(&mut self, all: &[Bind]) -> Result<List<Bind>, Memory> {
         let mut done = List::of(Vec::new(self.alloc));
         for bind in all {
@@ -258,6 +265,7 @@ impl Numbering {
     }
 
     #[cycle(numbering)]
+    #[tactic(auto, using(crate::proofs::Parts::row_falls))]
     pub(crate) fn rows(&mut self, all: &[Equation]) -> Result<List<Equation>, Memory> {
         let mut done = List::of(Vec::new(self.alloc));
         for row in all {
@@ -299,6 +307,7 @@ impl Numbering {
     }
 
     #[cycle(numbering_starts)]
+    #[tactic(auto, using(crate::proofs::Parts::init_falls))]
     fn field_inits(&mut self, all: &[FieldInit]) -> Result<List<FieldInit>, Memory> {
         let mut done = List::of(Vec::new(self.alloc));
         for field in all {

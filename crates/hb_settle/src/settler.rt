@@ -135,6 +135,7 @@ impl Settler {
     }
 
     #[cycle(settling)]
+    #[tactic(auto, using(crate::proofs::Parts::expr_falls))]
     fn exprs(&mut self, all: &[Expr]) -> Result<Vec<Expr>, Memory> {
         let mut done = Vec::new(self.alloc);
         for e in all {
@@ -145,6 +146,7 @@ impl Settler {
     }
 
     #[cycle(settling)]
+    #[tactic(auto, using(crate::proofs::Parts::field_falls))]
     fn fields(&mut self, all: &[FieldExpr]) -> Result<List<FieldExpr>, Memory> {
         let mut done = List::of(Vec::new(self.alloc));
         for field in all {
@@ -159,6 +161,7 @@ impl Settler {
     }
 
     #[cycle(settling)]
+    #[tactic(auto, using(crate::proofs::Parts::alt_falls))]
     fn alts(&mut self, all: &[Alt]) -> Result<List<Alt>, Memory> {
         let mut done = List::of(Vec::new(self.alloc));
         for alt in all {
@@ -170,6 +173,7 @@ impl Settler {
     }
 
     #[cycle(settling)]
+    #[tactic(auto, using(crate::proofs::Parts::stmt_falls))]
     fn stmts(&mut self, all: &[Stmt]) -> Result<List<Stmt>, Memory> {
         let mut done = List::of(Vec::new(self.alloc));
         for stmt in all {
@@ -200,6 +204,7 @@ impl Settler {
 
     /// The definitions of a block.
     #[cycle(settling)]
+    #[tactic(auto, using(crate::proofs::Parts::bind_falls))]
     pub(crate) fn binds(&mut self, all: &[Bind]) -> Result<List<Bind>, Memory> {
         let mut done = Rows::new(self.alloc);
         for bind in all {
@@ -215,6 +220,7 @@ impl Settler {
     }
 
     #[cycle(settling)]
+    #[tactic(auto, using(crate::proofs::Parts::row_falls))]
     pub(crate) fn rows(&mut self, all: &[Equation]) -> Result<List<Equation>, Memory> {
         let mut done = List::of(Vec::new(self.alloc));
         for row in all {
@@ -257,6 +263,7 @@ impl Settler {
     }
 
     #[cycle(starting)]
+    #[tactic(auto, using(crate::proofs::Parts::init_falls))]
     fn field_inits(&mut self, all: &[FieldInit]) -> Result<List<FieldInit>, Memory> {
         let mut done = List::of(Vec::new(self.alloc));
         for field in all {
