@@ -111,6 +111,7 @@ impl Uses {
     }
 
     #[cycle(binders)]
+    #[tactic(auto, using(hb_settle::proofs::Parts::pat_falls))]
     fn bind_pats(&mut self, pats: &[Pat]) -> Result<(), Memory> {
         for pat in pats {
             self.bind_pat(pat)?;
@@ -119,6 +120,7 @@ impl Uses {
     }
 
     #[cycle(binders)]
+    #[tactic(auto, using(hb_settle::proofs::Parts::field_pat_falls))]
     fn bind_fields(&mut self, fields: &[FieldPat]) -> Result<(), Memory> {
         for field in fields {
             self.bind_pat(&field.pat)?;
@@ -130,6 +132,12 @@ impl Uses {
     fn bind_row(&mut self, pats: &[Pat]) -> Result<(), Memory> {
         self.together.clear();
         self.bind_pats(pats)
+    }
+
+    /// Binds the variables of a pattern that stands alone.
+    fn bind_alone(&mut self, pat: &Pat) -> Result<(), Memory> {
+        self.together.clear();
+        self.bind_pat(pat)
     }
 
     /// No definition of a block comes twice.
@@ -195,6 +203,7 @@ impl Uses {
     }
 
     #[cycle(pattern_uses)]
+    #[tactic(auto, using(hb_settle::proofs::Parts::pat_falls))]
     fn pats(&mut self, pats: &[Pat]) -> Result<(), Memory> {
         for pat in pats {
             self.pat(pat)?;
@@ -203,6 +212,7 @@ impl Uses {
     }
 
     #[cycle(pattern_uses)]
+    #[tactic(auto, using(hb_settle::proofs::Parts::field_pat_falls))]
     fn field_pats(&mut self, fields: &[FieldPat]) -> Result<(), Memory> {
         for field in fields {
             self.label(field.place, field.name);
@@ -284,6 +294,7 @@ impl Uses {
     }
 
     #[cycle(uses)]
+    #[tactic(auto, using(hb_settle::proofs::Parts::expr_falls))]
     fn exprs(&mut self, all: &[Expr]) -> Result<(), Memory> {
         for e in all {
             self.expr(e)?;
@@ -292,6 +303,7 @@ impl Uses {
     }
 
     #[cycle(uses)]
+    #[tactic(auto, using(hb_settle::proofs::Parts::field_falls))]
     fn fields(&mut self, all: &[FieldExpr]) -> Result<(), Memory> {
         for field in all {
             self.label(field.place, field.name);
@@ -308,12 +320,12 @@ impl Uses {
     }
 
     #[cycle(uses)]
+    #[tactic(auto, using(hb_settle::proofs::Parts::alt_falls))]
     fn alts(&mut self, all: &[Alt]) -> Result<(), Memory> {
         for alt in all {
             let mark = self.hidden.len();
             self.pat(&alt.pat)?;
-            self.together.clear();
-            self.bind_pat(&alt.pat)?;
+            self.bind_alone(&alt.pat)?;
             self.expr(&alt.body)?;
             self.back_to(mark);
         }
@@ -321,20 +333,26 @@ impl Uses {
     }
 
     #[cycle(uses)]
+    #[tactic(auto, using(hb_settle::proofs::Parts::stmt_falls))]
     fn stmts(&mut self, all: &[Stmt]) -> Result<(), Memory> {
         for stmt in all {
-            match stmt {
-                Stmt::Take(pat, e) => {
-                    self.pat(pat)?;
-                    self.expr(e)?;
-                    self.together.clear();
-                    self.bind_pat(pat)?;
-                }
-                Stmt::Let(local) => self.block(local.as_slice())?,
-                Stmt::Do(e) => self.expr(e)?,
-            }
+            self.stmt(stmt)?;
         }
         Ok(())
+    }
+
+    /// A statement, whose names are bound behind it.
+    #[cycle(uses)]
+    fn stmt(&mut self, stmt: &Stmt) -> Result<(), Memory> {
+        match stmt {
+            Stmt::Take(pat, e) => {
+                self.pat(pat)?;
+                self.expr(e)?;
+                self.bind_alone(pat)
+            }
+            Stmt::Let(local) => self.block(local.as_slice()),
+            Stmt::Do(e) => self.expr(e),
+        }
     }
 
     /// The definitions of a block, whose names are bound behind them.
@@ -348,6 +366,7 @@ impl Uses {
     /// The definitions of a block whose names mean nothing: each one sees those before it, and functions that stand next to
     /// each other see one another.
     #[cycle(uses)]
+    #[tactic(auto, using(hb_settle::proofs::Parts::bind_falls))]
     fn binds(&mut self, all: &[Bind]) -> Result<(), Memory> {
         let mut grouped = false;
         for at in 0..all.len() {
@@ -368,6 +387,7 @@ impl Uses {
     }
 
     #[cycle(uses)]
+    #[tactic(auto, using(hb_settle::proofs::Parts::row_falls))]
     fn rows(&mut self, all: &[Equation]) -> Result<(), Memory> {
         for row in all {
             self.row(row)?;
@@ -423,6 +443,7 @@ impl Uses {
     }
 
     #[cycle(starts)]
+    #[tactic(auto, using(hb_settle::proofs::Parts::init_falls))]
     fn field_inits(&mut self, all: &[FieldInit]) -> Result<(), Memory> {
         for field in all {
             self.init(&field.init)?;
