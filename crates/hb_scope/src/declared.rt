@@ -7,14 +7,20 @@ use hb_resolved::Target;
 use hb_tree::{BitCon, BitPart, DataCon, Decl, FieldDecl, NameAt, Sig, StructPart};
 use std::alloc::Global;
 
+/// What the names in expressions and patterns mean.
+#[derive(Drop)]
+pub(crate) struct Tables {
+    pub(crate) variables: Meanings,
+    pub(crate) constructors: Meanings,
+    /// The fields of all types.
+    pub(crate) labels: NameSet,
+}
+
 /// What a program declares. Where a name is declared twice, the first declaration counts.
 #[derive(Drop)]
 pub(crate) struct Declared {
-    pub(crate) variables: Meanings,
-    pub(crate) constructors: Meanings,
+    pub(crate) tables: Tables,
     pub(crate) sorts: Sorts,
-    /// The fields of all types.
-    pub(crate) labels: NameSet,
     pub(crate) signed: NameSet,
     pub(crate) defined: NameSet,
     /// The primitives, methods, areas and ports.
@@ -27,14 +33,23 @@ pub(crate) struct Declared {
     cons: u32,
 }
 
+impl Tables {
+    /// So many names that mean nothing.
+    fn new(alloc: Global, names: u32) -> Result<Tables, Memory> {
+        Ok(Tables {
+            variables: Meanings::new(alloc, names)?,
+            constructors: Meanings::new(alloc, names)?,
+            labels: NameSet::new(alloc, names)?,
+        })
+    }
+}
+
 impl Declared {
     /// So many names, of which nothing is declared.
     fn empty(alloc: Global, names: u32) -> Result<Declared, Memory> {
         Ok(Declared {
-            variables: Meanings::new(alloc, names)?,
-            constructors: Meanings::new(alloc, names)?,
+            tables: Tables::new(alloc, names)?,
             sorts: Sorts::new(alloc, names)?,
-            labels: NameSet::new(alloc, names)?,
             signed: NameSet::new(alloc, names)?,
             defined: NameSet::new(alloc, names)?,
             others: NameSet::new(alloc, names)?,
@@ -50,7 +65,10 @@ impl Declared {
         let mut declared = Declared::empty(alloc, names)?;
         for number in 0..fixed::PRIMITIVES {
             let name = Name(fixed::FIRST_PRIMITIVE + number);
-            declared.variables.declare(name, Target::Prim(number));
+            declared
+                .tables
+                .variables
+                .declare(name, Target::Prim(number));
             declared.others.put(name);
         }
         Ok(declared)
@@ -74,7 +92,7 @@ impl Declared {
         if self.defined.put(name) || self.others.has(name) {
             faults.put_twice(place, name);
         }
-        self.variables.declare(name, Target::Top(number));
+        self.tables.variables.declare(name, Target::Top(number));
     }
 
     /// A method, an area or a port, which has no signature.
@@ -83,7 +101,7 @@ impl Declared {
         if is_other || self.signed.has(at.name) || self.defined.has(at.name) {
             faults.put_twice(at.place, at.name);
         }
-        self.variables.declare(at.name, target);
+        self.tables.variables.declare(at.name, target);
     }
 
     fn declare_methods(&mut self, sig: &Sig, faults: &mut Faults) {
@@ -100,10 +118,12 @@ impl Declared {
     }
 
     fn declare_con(&mut self, at: NameAt, faults: &mut Faults) {
-        if self.constructors.is_known(at.name) {
+        if self.tables.constructors.is_known(at.name) {
             faults.put_twice(at.place, at.name);
         }
-        self.constructors.declare(at.name, Target::Con(self.cons));
+        self.tables
+            .constructors
+            .declare(at.name, Target::Con(self.cons));
         self.cons = self.cons.wrapping_add(1);
     }
 
@@ -134,7 +154,7 @@ impl Declared {
     fn fields(&mut self, fields: &FieldDecl, faults: &mut Faults) {
         self.list(fields.names.as_slice(), faults);
         for at in fields.names.as_slice() {
-            self.labels.put(at.name);
+            self.tables.labels.put(at.name);
         }
     }
 

@@ -1,3 +1,7 @@
+ghost use Rattle.std.specs.Prelude.{◌≡◌, IfErr, IsTrue};
+ghost use Rattle.hb_base.specs.Faults.{IfRefused};
+ghost use Rattle.hb_scope.specs.Faults.{is_of_names};
+
 use crate::declared::Declared;
 use crate::faults::Faults;
 use crate::lone::lone_names;
@@ -5,10 +9,10 @@ use crate::methods::Methods;
 use crate::name_set::NameSet;
 use crate::type_names::TypeNames;
 use crate::uses::Uses;
-use hb_base::{Fault, List, Memory, Names, Place, fixed, refused};
+use hb_base::{Code, Fault, List, Memory, Names, Place, fixed, refused};
 use hb_resolved::{Resolved, Target};
 use hb_settle::{Settled, settle};
-use hb_tree::Program;
+use hb_tree::{NameAt, Program};
 use std::alloc::Global;
 
 /// What is found in a settled program: the targets of its nodes, and the earliest fault of each rule.
@@ -16,6 +20,20 @@ use std::alloc::Global;
 struct Found {
     targets: List<Target>,
     faults: Faults,
+}
+
+/// What is declared, looked through for names that come twice, or without the other of signature and definition.
+fn declare(
+    alloc: Global,
+    names: u32,
+    settled: &Settled,
+    faults: &mut Faults,
+) -> Result<Declared, Memory> {
+    let decls = &settled.program.decls;
+    let mut declared = Declared::new(alloc, names)?;
+    declared.take_in(decls, faults);
+    lone_names(&declared, decls, faults);
+    Ok(declared)
 }
 
 /// Looks through a settled program.
@@ -27,30 +45,12 @@ fn look_through(alloc: Global, names: u32, settled: &Settled) -> Result<Found, M
         clash: settled.clash,
         lone: None,
     };
-    let mut declared = Declared::new(alloc, names)?;
-    declared.take_in(decls, &mut faults);
-    lone_names(&declared, decls, &mut faults);
+    let declared = declare(alloc, names, settled, &mut faults)?;
     let has_main = declared.defined.has(fixed::MAIN);
-    let Declared {
-        variables,
-        constructors,
-        sorts,
-        labels,
-        ..
-    } = declared;
+    let Declared { tables, sorts, .. } = declared;
     let mut types = TypeNames::new(alloc, names, sorts)?;
     types.decls(decls, &mut faults);
-    let mut uses = Uses {
-        alloc,
-        variables,
-        constructors,
-        labels,
-        together: NameSet::new(alloc, names)?,
-        hidden: Vec::new(alloc),
-        targets: List::of(Vec::new(alloc)),
-        next: settled.nodes,
-        faults,
-    };
+    let mut uses = Uses::new(alloc, names, settled.nodes, tables, faults)?;
     uses.decls(decls)?;
     let Uses {
         targets,
@@ -65,6 +65,31 @@ fn look_through(alloc: Global, names: u32, settled: &Settled) -> Result<Found, M
     Ok(Found { targets, faults })
 }
 
+/// The refusal for a name.
+fn told(alloc: Global, names: &Names, code: Code, at: NameAt) -> Fault
+    ensures { IfRefused (λ refusal. refusal.code ≡ code) result }
+{
+    match names.text(at.name) {
+        Some(text) => refused(alloc, code, at.place, text),
+        None => refused(alloc, code, at.place, b""),
+    }
+}
+
+/// A program in which this was found, or its refusal.
+fn judge(alloc: Global, names: Names, program: Program, found: Found) -> Result<Resolved, Fault>
+    ensures faults { IfErr result (IfRefused (λ refusal. IsTrue (is_of_names refusal.code))) }
+{
+    let Found { targets, faults } = found;
+    match faults.first() {
+        None => Ok(Resolved {
+            program,
+            targets,
+            names,
+        }),
+        Some((code, at)) => Err(told(alloc, &names, code, at)),
+    }
+}
+
 /// The prelude and a source as one program whose names have their targets. `names` is the table with which both were read, and
 /// the places of the prelude are 0:0.
 ///
@@ -74,22 +99,15 @@ pub fn resolve(
     names: Names,
     prelude: Program,
     source: Program,
-) -> Result<Resolved, Fault> {
+) -> Result<Resolved, Fault>
+    ensures faults { IfErr result (IfRefused (λ refusal. IsTrue (is_of_names refusal.code))) }
+{
     let count = names.count();
-    let settled = settle(alloc, count, prelude, source)?;
-    let Found { targets, faults } = look_through(alloc, count, &settled)?;
-    match faults.first() {
-        None => Ok(Resolved {
-            program: settled.program,
-            targets,
-            names,
-        }),
-        Some((code, at)) => {
-            let text = match names.text(at.name) {
-                Some(text) => text,
-                None => b"",
-            };
-            Err(refused(alloc, code, at.place, text))
-        }
+    match settle(alloc, count, prelude, source) {
+        Ok(settled) => match look_through(alloc, count, &settled) {
+            Ok(found) => judge(alloc, names, settled.program, found),
+            Err(_memory) => Err(Fault::Memory),
+        },
+        Err(_memory) => Err(Fault::Memory),
     }
 }

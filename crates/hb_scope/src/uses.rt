@@ -1,5 +1,5 @@
+use crate::declared::Tables;
 use crate::faults::Faults;
-use crate::meanings::Meanings;
 use crate::name_set::NameSet;
 use hb_base::{List, Memory, Name, Place, fixed};
 use hb_resolved::Target;
@@ -13,16 +13,13 @@ use std::alloc::Global;
 /// mean where it is bound, and `hidden` keeps what to put back behind its scope.
 #[derive(Drop)]
 pub(crate) struct Uses {
-    pub(crate) alloc: Global,
-    pub(crate) variables: Meanings,
-    pub(crate) constructors: Meanings,
-    pub(crate) labels: NameSet,
+    tables: Tables,
     /// The names that are bound together.
-    pub(crate) together: NameSet,
-    pub(crate) hidden: Vec<(Name, Target)>,
+    together: NameSet,
+    hidden: Vec<(Name, Target)>,
     pub(crate) targets: List<Target>,
     /// The number of the next name of an `each`.
-    pub(crate) next: u32,
+    next: u32,
     pub(crate) faults: Faults,
 }
 
@@ -43,6 +40,24 @@ fn is_function(bind: &Bind) -> bool {
 }
 
 impl Uses {
+    /// No node is looked at, of so many. What is declared is in these tables, and these faults were met before.
+    pub(crate) fn new(
+        alloc: Global,
+        names: u32,
+        nodes: u32,
+        tables: Tables,
+        faults: Faults,
+    ) -> Result<Uses, Memory> {
+        Ok(Uses {
+            tables,
+            together: NameSet::new(alloc, names)?,
+            hidden: Vec::new(alloc),
+            targets: List::of(Vec::new(alloc)),
+            next: nodes,
+            faults,
+        })
+    }
+
     // What nodes use.
 
     fn no_name(&mut self) -> Result<(), Memory> {
@@ -50,21 +65,21 @@ impl Uses {
     }
 
     fn variable(&mut self, at: Place, name: Name) -> Result<(), Memory> {
-        if !self.variables.is_known(name) {
+        if !self.tables.variables.is_known(name) {
             self.faults.put_unbound(at, name);
         }
-        self.targets.push(self.variables.of(name))
+        self.targets.push(self.tables.variables.of(name))
     }
 
     fn constructor(&mut self, at: Place, name: Name) -> Result<(), Memory> {
-        if !self.constructors.is_known(name) {
+        if !self.tables.constructors.is_known(name) {
             self.faults.put_unbound(at, name);
         }
-        self.targets.push(self.constructors.of(name))
+        self.targets.push(self.tables.constructors.of(name))
     }
 
     fn label(&mut self, at: Place, name: Name) {
-        if !self.labels.has(name) {
+        if !self.tables.labels.has(name) {
             self.faults.put_unbound(at, name);
         }
     }
@@ -72,8 +87,8 @@ impl Uses {
     // How names are bound.
 
     fn mean(&mut self, name: Name, target: Target) -> Result<(), Memory> {
-        self.hidden.push((name, self.variables.of(name)))?;
-        self.variables.put(name, target);
+        self.hidden.push((name, self.tables.variables.of(name)))?;
+        self.tables.variables.put(name, target);
         Ok(())
     }
 
@@ -81,7 +96,7 @@ impl Uses {
     fn back_to(&mut self, mark: usize) {
         for _ in mark..self.hidden.len() {
             if let Some((name, target)) = self.hidden.pop() {
-                self.variables.put(name, target);
+                self.tables.variables.put(name, target);
             }
         }
     }
