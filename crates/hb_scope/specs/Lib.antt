@@ -1,0 +1,4 @@
+pub mod Faults
+pub mod Unbound
+pub mod Twice
+pub mod FirstRefusal
