@@ -5,7 +5,8 @@ use Rattle.std.specs.Prelude.{slice_get}
 use Rattle.hb_types.specs.declared.atom.Atom.{Atom}
 use Rattle.hb_types.specs.declared.atom.Atom.TheVariants.{Var, Con, Nat}
 use Rattle.hb_types.specs.Types.{Ty, Unknown, Leaf, Apply}
-use Rattle.hb_core.specs.TypeForms.{type_for, put, puts, same_atom, same_type, same_types}
+use Rattle.hb_types.specs.Put.{type_for, put, puts}
+use Rattle.hb_core.specs.TypeForms.{same_atom, same_type, same_types}
 use Rattle.hb_core.specs.View.{Instance}
 use Rattle.hb_core.specs.Choice.{Met, met, met_all, type_met, types_from, instance_types, is_at, Choice, choose, Occurs, OccursInSome, NamesItsVariables, AreApart}
 

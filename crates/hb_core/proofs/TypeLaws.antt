@@ -2,7 +2,7 @@
 use Rattle.std.proofs.Common.{◌≡◌, ℕ, zero, suc, List, [], ◌∷◌, refl}
 use Rattle.hb_types.specs.declared.atom.Atom.TheVariants.{Var, Con, Nat}
 use Rattle.hb_types.specs.Types.{Ty, Unknown, Leaf, Apply}
-use Rattle.hb_core.specs.TypeForms.{type_for, put, puts}
+use Rattle.hb_types.specs.Put.{type_for, put, puts}
 
 pub for_puts : (ts us : List Ty) (v : ℕ) → put ts (type_for us v) ≡ type_for (puts ts us) v
 for_puts ts [] v = refl

@@ -3,7 +3,8 @@
 use Rattle.std.specs.Prelude.{◌≡◌, ◌⊎◌, ℕ, zero, suc, ◌<◌, ◌==◌, ◌&&◌, Bool, true, cond, List, [], ◌∷◌, ◌++◌, slice_get, Option, Some, None}
 use Rattle.hb_types.specs.Types.{Ty, Unknown, Leaf, Apply}
 use Rattle.hb_types.specs.declared.atom.Atom.TheVariants.{Var}
-use Rattle.hb_core.specs.TypeForms.{puts, same_types}
+use Rattle.hb_types.specs.Put.{puts}
+use Rattle.hb_core.specs.TypeForms.{same_types}
 use Rattle.hb_core.specs.View.{Instance}
 
 -- a variable of a head, and the type that stands at its place

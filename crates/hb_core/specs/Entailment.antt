@@ -3,7 +3,7 @@ use Rattle.std.specs.Prelude.{◌≡◌, ℕ, ◌-◌, ◌^◌, true, List, [], 
 use Rattle.hb_types.specs.Types.{Ty}
 use Rattle.hb_types.specs.declared.scheme.Pred.{Pred}
 use Rattle.hb_types.specs.Uses.{InstanceUse, AUse, Uses, NoUses, MoreUses}
-use Rattle.hb_core.specs.TypeForms.{puts}
+use Rattle.hb_types.specs.Put.{puts}
 use Rattle.hb_core.specs.View.{View, Instance}
 use Rattle.hb_core.specs.Facts.{is_fact}
 

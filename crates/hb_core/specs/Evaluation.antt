@@ -17,7 +17,8 @@ use Rattle.hb_steps.specs.Tree.{Wrong, Due}
 use Rattle.hb_core.specs.Asks.{Calls, Runs, Returns, Halts, ReadsPort, WritesPort, ReadsCell, WritesCell, Tree, Next}
 use Rattle.hb_core.specs.Prims as prim
 use Rattle.hb_core.specs.Prims.{Prim}
-use Rattle.hb_core.specs.TypeForms.{Form, Of, Ref, Declared, form, put, puts}
+use Rattle.hb_types.specs.Put.{put, puts}
+use Rattle.hb_core.specs.TypeForms.{Form, Of, Ref, Declared, form}
 use Rattle.hb_core.specs.Values.{Site, OfRows, OfLambda, OfSteps, Field, Val, Vals, NoVals, MoreVals, Number, Pattern, Built, Reference, Port, Function, Making, Computing, Steps, Acting, Env, NoEnv, Bind, Group, and_one}
 use Rattle.hb_core.specs.View.{View, Target, NoTarget, Local, Top, Method, Primitive, Constructor, Area, APort, MethodOf, Con, DataCon, BitCon, BitField, StructField}
 use Rattle.hb_core.specs.Numbers.{value_at, number_of, bits_at}

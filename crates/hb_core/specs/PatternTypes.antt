@@ -5,7 +5,8 @@ use Rattle.hb_types.specs.declared.scheme.Pred.{Pred}
 use Rattle.hb_types.specs.declared.scheme.Scheme.{Scheme}
 use Rattle.hb_tree.specs.Patterns as pat
 use Rattle.hb_tree.specs.Patterns.{Pat, PatKind, APat, Pats, NoPats, MorePats, FieldPats, NoFieldPats, MoreFieldPats}
-use Rattle.hb_core.specs.TypeForms.{Bit, at_one, number_type, arrows, put}
+use Rattle.hb_types.specs.Put.{put}
+use Rattle.hb_core.specs.TypeForms.{Bit, at_one, number_type, arrows}
 use Rattle.hb_core.specs.View.{View, Constructor, Con, DataCon, BitCon, BitField}
 use Rattle.hb_core.specs.Matching.{con_of, field_named}
 use Rattle.hb_core.specs.Facts.{literal_at}

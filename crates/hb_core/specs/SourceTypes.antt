@@ -6,7 +6,8 @@ use Rattle.hb_types.specs.declared.atom.Atom.TheVariants.{Var}
 use Rattle.hb_types.specs.declared.scheme.Scheme.{Scheme}
 use Rattle.hb_tree.specs.Expressions.{Equations}
 use Rattle.hb_tree.specs.Initials.{InitExpr, Each, Fields, Cell, FieldInits, NoFieldInits, MoreFieldInits}
-use Rattle.hb_core.specs.TypeForms.{Ix, Action, at_one, number_type, form, put}
+use Rattle.hb_types.specs.Put.{put}
+use Rattle.hb_core.specs.TypeForms.{Ix, Action, at_one, number_type, form}
 use Rattle.hb_core.specs.View.{View, Top, Method, MethodOf, Instance, StructField, AreaDecl}
 use Rattle.hb_core.specs.Environments.{node}
 use Rattle.hb_core.specs.Evaluation.{struct_of}

@@ -1,4 +1,4 @@
--- Types by their forms, types in the place of variables, and types that are the same.
+-- Types by their forms, and types that are the same.
 use Rattle.std.specs.Prelude.{ℕ, zero, suc, ◌+◌, Bool, true, false, ◌&&◌, ◌==◌, List, [], ◌∷◌, slice_index_or, Option, Some, None}
 use Rattle.hb_types.specs.declared.atom.Atom.{Atom}
 use Rattle.hb_types.specs.declared.atom.Atom.TheVariants.{Var, Con, Nat}
@@ -104,23 +104,6 @@ number_in OtherForm = None
 -- the number that a type is, if it is one
 abbrev pub type_number : Ty → Option ℕ
 type_number t = number_in (form t)
-
--- ---- types in the place of variables
-
--- the type for a variable, by its place among the variables
-abbrev pub type_for : List Ty → ℕ → Ty
-type_for ts v = slice_index_or ts v (Unknown 0)
-
-abbrev pub put : List Ty → Ty → Ty
-put ts (Unknown n) = Unknown n
-put ts (Leaf (Var v)) = type_for ts v
-put ts (Leaf (Con c)) = Leaf (Con c)
-put ts (Leaf (Nat n)) = Leaf (Nat n)
-put ts (Apply f x) = Apply (put ts f) (put ts x)
-
-abbrev pub puts : List Ty → List Ty → List Ty
-puts ts [] = []
-puts ts (t ∷ us) = put ts t ∷ puts ts us
 
 -- ---- types that are the same
 

@@ -1,5 +1,5 @@
 -- Kinds in a table.
-use Rattle.std.proofs.Common.{◌≡◌, ℕ, ◌+◌, ◌<◌, List, [], ◌∷◌, ◌++◌, length, sym, refl, ap, ◌∙◌, arith}
+use Rattle.std.proofs.Common.{◌≡◌, ℕ, ◌<◌, List, [], ◌∷◌, ◌++◌, length, sym, refl, ap, ◌∙◌, arith}
 use Rattle.hb_types.specs.declared.kind_table.KindForm.{KindForm}
 use Rattle.hb_types.specs.declared.kind_table.KindForm.TheVariants as form
 use Rattle.hb_types.specs.Kinds.{Kind, Star, Arrow}

@@ -5,7 +5,7 @@ use Rattle.std.proofs.lemmas.Bool.{cases_lt}
 use Rattle.hb_types.specs.declared.table.Form.{Form}
 use Rattle.hb_types.specs.declared.table.Form.TheVariants as form
 use Rattle.hb_types.specs.contracts.table.FormPartialEq.TheImpl as form_eq
-use Rattle.hb_types.specs.Types.{Ty, Unknown, Leaf, Apply}
+use Rattle.hb_types.specs.Types.{Ty, Apply}
 use Rattle.hb_types.specs.Tables.{type_at, built, HasPartsBelow}
 use Rattle.hb_types.specs.Normal.{normal_form, IsFirst, AreFirstBelow, AreFirst}
 

@@ -1,12 +1,12 @@
 -- A table of uses grows at its end, and says the same when more types come.
-use Rattle.std.proofs.Common.{◌≡◌, ℕ, suc, zero, ◌+◌, ◌<◌, List, [], ◌∷◌, ◌++◌, length, map, get_or, sym, refl, ap, ◌∙◌, subst, arith, ⊎_elim, length-append}
+use Rattle.std.proofs.Common.{◌≡◌, ℕ, suc, List, [], ◌∷◌, ◌++◌, length, map, sym, refl, ap, ◌∙◌, subst, arith, ⊎_elim, length-append}
 use Rattle.std.proofs.lemmas.List.{get_or_append_left, get_or_push, get_or_past}
 use Rattle.std.proofs.lemmas.Bool.{cases_eq, cases_lt}
 use Rattle.hb_types.specs.declared.instance_use.UseForm.{UseForm}
 use Rattle.hb_types.specs.Made.{made_from}
 use Rattle.hb_types.specs.Types.{Ty}
 use Rattle.hb_types.specs.Tables.{Extends}
-use Rattle.hb_types.specs.Put.{types_at, ArePlaces}
+use Rattle.hb_types.specs.Put.{ArePlaces}
 use Rattle.hb_types.specs.Uses.{InstanceUse, AUse, uses}
 use Rattle.hb_types.specs.UseTables.{use_at, use_built, uses_of, HasContextBelow, no_use, use_form_at, AreUses}
 use Rattle.hb_types.proofs.PutLemmas.{types_at-more, places-more}

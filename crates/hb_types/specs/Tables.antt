@@ -1,5 +1,5 @@
 -- Tables of types: each node is an unknown, an atom, or an application of two earlier nodes.
-use Rattle.std.specs.Prelude.{◌≡◌, ℕ, ◌+◌, ◌<◌, ◌-◌, List, [], ◌∷◌, ◌++◌, length, slice_index_or}
+use Rattle.std.specs.Prelude.{◌≡◌, ℕ, ◌+◌, ◌<◌, ◌-◌, List, [], ◌++◌, length, slice_index_or}
 use Rattle.hb_types.specs.declared.table.Form.{Form}
 use Rattle.hb_types.specs.declared.table.Form.TheVariants as form
 use Rattle.hb_types.specs.Made.{made_from, AreLaidBy}

@@ -62,12 +62,7 @@ impl Types {
     /// Puts the types of another table at the end, with the type at `args[v]` in the place of the variable v, in time
     /// that is linear in that table. Answers for each place there its place here. A variable without an argument
     /// becomes the unknown 0.
-    pub fn put(
-        &mut self,
-        alloc: Global,
-        of: &Types,
-        args: &[usize],
-    ) -> Result<List<usize>, Memory>
+    pub fn put(&mut self, alloc: Global, of: &Types, args: &[usize]) -> Result<List<usize>, Memory>
         requires args { ArePlaces self.old args.now }
         ensures more { Extends self.old self.new }
         ensures put { IfOk result (ArePut (types_at self.old args.now) of.now self.new) }

@@ -64,7 +64,10 @@ fn a_type_is_the_last_of_its_table(rt: HostRuntime) -> Result<(), Fail> {
 fn a_type_is_applied_to_another_one(rt: HostRuntime) -> Result<(), Fail> {
     let con = Ty::leaf(rt.alloc(), Atom::Con(1))?;
     let pair = Ty::apply(con, Ty::leaf(rt.alloc(), Atom::Nat(7))?)?;
-    let open = Ty::apply(Ty::leaf(rt.alloc(), Atom::Con(2))?, Ty::unknown(rt.alloc(), 4)?)?;
+    let open = Ty::apply(
+        Ty::leaf(rt.alloc(), Atom::Con(2))?,
+        Ty::unknown(rt.alloc(), 4)?,
+    )?;
     let whole = Ty::apply(pair, open)?;
     let table = whole.table();
     assert!(rt; table.len() == 7);

@@ -12,11 +12,7 @@ use std::alloc::Global;
 
 /// Puts the types of all nodes at the end of a table, and answers their places there: nodes that are linked have one
 /// place.
-pub fn node_types(
-    alloc: Global,
-    entries: &[Entry],
-    table: &mut Types,
-) -> Result<Vec<usize>, Memory>
+pub fn node_types(alloc: Global, entries: &[Entry], table: &mut Types) -> Result<Vec<usize>, Memory>
     requires graph { IsGraph entries.now }
     requires solution { (v : ℕ → Finite) × Obeys v entries.now }
     ensures { IfOk result (λ places. AreNodeTypes entries.now (length entries.now) table.new places.items) }

@@ -56,12 +56,7 @@ impl Unknowns {
     /// Puts the types of a table, which has no unknowns, with the type at `args[v]` in the place of the variable v, in
     /// time that is linear in the table. Answers for each place of the table its place here. After `Memory` some of the
     /// types stand here, and nothing else has changed.
-    pub fn put(
-        &mut self,
-        alloc: Global,
-        of: &Types,
-        args: &[usize],
-    ) -> Result<List<usize>, Memory>
+    pub fn put(&mut self, alloc: Global, of: &Types, args: &[usize]) -> Result<List<usize>, Memory>
         requires args { ArePlaces self.old.types args.now }
         requires variables { (k : ℕ) → k < length of.now → HasVarsBelow (length args.now) (type_at of.now k) }
         ensures grown { IsGrown self.old self.new }

@@ -4,9 +4,10 @@ ghost use Rattle.hb_unknowns.specs.Equations.{type_count};
 use crate::error::EquateError;
 use crate::full::FullTypes;
 use crate::node::Pair;
+use crate::normal::NormalTypes;
 use crate::unknowns::Unknowns;
 use hb_base::Memory;
-use hb_types::{Atom, Form, Kind};
+use hb_types::{Atom, Form, Kind, Types};
 use std::alloc::Global;
 use std::test::Fail;
 
@@ -178,5 +179,44 @@ fn many_equations_are_taken_at_once_or_none(rt: HostRuntime) -> Result<(), Fail>
     assert!(rt; matches!(clash, Err(EquateError::Clash)));
     let good = all.equate_all([first, second].as_slice());
     assert!(rt; matches!(good, Ok(())));
+    Ok(())
+}
+
+/// The form of the normal type of a place.
+fn normal_form_of(normal: &NormalTypes, place: usize) -> Option<Form> {
+    let at = normal.places.as_slice().get(place)?;
+    if *at < normal.types.len() {
+        Some(normal.types.form(*at))
+    } else {
+        None
+    }
+}
+
+#[test]
+fn one_unknown_stands_for_all_that_are_equated(rt: HostRuntime) -> Result<(), Fail> {
+    let mut all = unknowns(rt.alloc(), 4)?;
+    let con = all.leaf(Atom::Con(2))?;
+    let half = all.apply(con, 1)?;
+    assert!(rt; takes(&mut all, 0, half));
+    assert!(rt; takes(&mut all, 1, 2));
+    let normal = all.normal(rt.alloc())?;
+    assert!(rt; normal_form_of(&normal, 1) == normal_form_of(&normal, 2));
+    assert!(rt; matches!(normal_form_of(&normal, 1), Some(Form::Unknown(_))));
+    assert!(rt; normal_form_of(&normal, 1) != normal_form_of(&normal, 3));
+    assert!(rt; normal_form_of(&normal, 0) == normal_form_of(&normal, half));
+    assert!(rt; matches!(normal_form_of(&normal, 0), Some(Form::Apply(_, _))));
+    Ok(())
+}
+
+#[test]
+fn a_scheme_is_taken_in_at_types(rt: HostRuntime) -> Result<(), Fail> {
+    let mut scheme = Types::new(rt.alloc());
+    let con = scheme.push(Form::Leaf(Atom::Con(2)))?;
+    let variable = scheme.push(Form::Leaf(Atom::Var(0)))?;
+    scheme.push(Form::Apply(con, variable))?;
+    let mut all = unknowns(rt.alloc(), 1)?;
+    let places = all.put(rt.alloc(), &scheme, [0].as_slice())?;
+    assert!(rt; places.as_slice() == [1, 0, 2].as_slice());
+    assert!(rt; all.len() == 3);
     Ok(())
 }

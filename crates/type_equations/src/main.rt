@@ -1,15 +1,20 @@
 //! Takes in 100,000 equations three times, to measure how long that takes: a chain of unknowns, a tower of applications
-//! from above, and one from below. Then forty nested pairs, whose type has 2^40 leaves when it is written out. Prints
-//! how many equations were taken in.
+//! from above, and one from below. Then forty nested pairs, whose type has 2^40 leaves when it is written out. With the
+//! word `calls` it takes in the equations of 2,000 calls, each of the result of the one before, in one call each, and
+//! with the word `together` in one call for all. Prints how many equations were taken in.
 #![tactic(auto)]
+
+mod calls;
 
 ghost use Rattle.std.specs.Prelude.{◌≡◌, ◌+◌, ◌<◌, ◌≤◌, IfOk};
 ghost use Rattle.hb_unknowns.specs.Equations.{type_count};
 
+use calls::{one_by_one, together};
 use hb_base::Memory;
 use hb_types::{Atom, Kind};
 use hb_unknowns::Unknowns;
 use std::alloc::Global;
+use std::env::Env;
 use std::process::ExitCode;
 
 /// How many equations of a kind are taken in.
@@ -112,8 +117,22 @@ fn all_kinds(alloc: Global) -> Result<usize, Memory>
     Ok(first + second + third + last)
 }
 
+/// The longest word.
+const LONGEST_WORD: usize = 16;
+
+/// How many equations of the shape are taken in that the first word names; of all where there is no word.
+fn shape(alloc: Global, rt: &impl Env) -> Result<usize, Memory> {
+    let mut buffer = [0u8; LONGEST_WORD];
+    let length = rt.arg(1, &mut buffer).unwrap_or(0);
+    match buffer.get(..length) {
+        Some(b"calls") => one_by_one(alloc),
+        Some(b"together") => together(alloc),
+        _ => all_kinds(alloc),
+    }
+}
+
 fn main(rt: HostRuntime) -> ExitCode {
-    let Ok(taken) = all_kinds(rt.alloc()) else {
+    let Ok(taken) = shape(rt.alloc(), &rt) else {
         return ExitCode::from(2);
     };
     match println!(rt; "taken {taken}") {

@@ -1,4 +1,4 @@
-use Rattle.std.proofs.Common.{◌≡◌, length, ap, arith, ⊎_elim}
+use Rattle.std.proofs.Common.{length, ap, arith, ⊎_elim}
 use Rattle.std.specs.Map.{lookup}
 use Rattle.indexmap.specs.IndexMap.{get}
 use Rattle.hb_types.specs.Tables.{type_at}

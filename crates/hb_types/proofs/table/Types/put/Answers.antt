@@ -1,6 +1,4 @@
-use Rattle.std.proofs.Common.{◌≡◌, List, subst, sym}
-use Rattle.hb_types.specs.Types.{Ty}
-use Rattle.hb_types.specs.Put.{types_at, ArePutBelow}
+use Rattle.hb_types.specs.Put.{types_at}
 use Rattle.hb_types.proofs.TableLemmas.{extends-more}
 use Rattle.hb_types.proofs.PutLemmas.{types_at-more, places-more, put-next}
 use Rattle.hb_types.proofs.table.Types.put.Goals as goal
