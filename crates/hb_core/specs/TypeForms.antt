@@ -1,5 +1,5 @@
 -- Types by their forms, and types that are the same.
-use Rattle.std.specs.Prelude.{ℕ, zero, suc, ◌+◌, Bool, true, false, ◌&&◌, ◌==◌, List, [], ◌∷◌, slice_index_or, Option, Some, None}
+use Rattle.std.specs.Prelude.{ℕ, zero, suc, ◌+◌, Bool, true, false, ◌&&◌, ◌==◌, List, [], ◌∷◌, Option, Some, None}
 use Rattle.hb_types.specs.declared.atom.Atom.{Atom}
 use Rattle.hb_types.specs.declared.atom.Atom.TheVariants.{Var, Con, Nat}
 use Rattle.hb_types.specs.Types.{Ty, Unknown, Leaf, Apply}

@@ -7,7 +7,7 @@ use crate::node::Pair;
 use crate::normal::NormalTypes;
 use crate::unknowns::Unknowns;
 use hb_base::Memory;
-use hb_types::{Atom, Form, Kind, Types};
+use hb_types::{Atom, Form, Kind};
 use std::alloc::Global;
 use std::test::Fail;
 
@@ -205,18 +205,5 @@ fn one_unknown_stands_for_all_that_are_equated(rt: HostRuntime) -> Result<(), Fa
     assert!(rt; normal_form_of(&normal, 1) != normal_form_of(&normal, 3));
     assert!(rt; normal_form_of(&normal, 0) == normal_form_of(&normal, half));
     assert!(rt; matches!(normal_form_of(&normal, 0), Some(Form::Apply(_, _))));
-    Ok(())
-}
-
-#[test]
-fn a_scheme_is_taken_in_at_types(rt: HostRuntime) -> Result<(), Fail> {
-    let mut scheme = Types::new(rt.alloc());
-    let con = scheme.push(Form::Leaf(Atom::Con(2)))?;
-    let variable = scheme.push(Form::Leaf(Atom::Var(0)))?;
-    scheme.push(Form::Apply(con, variable))?;
-    let mut all = unknowns(rt.alloc(), 1)?;
-    let places = all.put(rt.alloc(), &scheme, [0].as_slice())?;
-    assert!(rt; places.as_slice() == [1, 0, 2].as_slice());
-    assert!(rt; all.len() == 3);
     Ok(())
 }

@@ -10,6 +10,7 @@ use std::alloc::Global;
 const CALLS: usize = 2_000;
 
 /// The equation of a call, and the type of its result.
+#[derive(Clone, Copy)]
 struct Call {
     equation: Pair,
     result: usize,
@@ -30,7 +31,7 @@ fn arrow(all: &mut Unknowns, from: usize, to: usize) -> Result<usize, Memory>
 
 /// A function from any type `a` to the constructor 1 applied to `a` is called. The result is an unknown of which the
 /// type of the call speaks, so what it is said to be may contain it, and is walked down.
-fn call(all: &mut Unknowns, argument: usize) -> Result<Call, Memory>
+fn make_call(all: &mut Unknowns, argument: usize) -> Result<Call, Memory>
     requires { argument < type_count all.old }
     ensures more { type_count all.old ≤ type_count all.new }
     ensures left { IfOk result (λ call. call.equation.left < type_count all.new) }
@@ -57,7 +58,7 @@ pub fn one_by_one(alloc: Global) -> Result<usize, Memory>
     let mut argument = all.fresh(Kind::star())?;
     let mut taken = 0;
     for _number in 0..CALLS {
-        let call = call(&mut all, argument)?;
+        let call = make_call(&mut all, argument)?;
         if let Ok(()) = all.equate(call.equation.left, call.equation.right) {
             taken += 1;
         }
@@ -74,7 +75,7 @@ pub fn together(alloc: Global) -> Result<usize, Memory>
     let mut argument = all.fresh(Kind::star())?;
     let mut equations = Vec::new(alloc);
     for _number in 0..CALLS {
-        let call = call(&mut all, argument)?;
+        let call = make_call(&mut all, argument)?;
         equations.push(call.equation)?;
         argument = call.result;
     }

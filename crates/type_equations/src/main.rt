@@ -124,11 +124,14 @@ const LONGEST_WORD: usize = 16;
 fn shape(alloc: Global, rt: &impl Env) -> Result<usize, Memory> {
     let mut buffer = [0u8; LONGEST_WORD];
     let length = rt.arg(1, &mut buffer).unwrap_or(0);
-    match buffer.get(..length) {
-        Some(b"calls") => one_by_one(alloc),
-        Some(b"together") => together(alloc),
-        _ => all_kinds(alloc),
+    let word = buffer.get(..length).unwrap_or_default();
+    if word == b"calls".as_slice() {
+        return one_by_one(alloc);
     }
+    if word == b"together".as_slice() {
+        return together(alloc);
+    }
+    all_kinds(alloc)
 }
 
 fn main(rt: HostRuntime) -> ExitCode {
