@@ -11,7 +11,8 @@ use Rattle.hb_tree.specs.Patterns as pat
 use Rattle.hb_tree.specs.Patterns.{Pat, PatKind, APat, Pats, NoPats, MorePats, FieldPats, NoFieldPats, MoreFieldPats}
 use Rattle.hb_tree.specs.Expressions as expr
 use Rattle.hb_tree.specs.Expressions.{Expr, AnExpr, ExprKind, FieldExprs, NoFieldExprs, MoreFieldExprs, Alts, NoAlts, MoreAlts, Stmts, NoStmts, TakeThen, LetThen, DoThen, Binds, NoBinds, MoreBinds, Equations, NoEquations, MoreEquations}
-use Rattle.hb_core.specs.TypeForms.{Action, Arrow, Form, Of, at_one, arrow, arrows, form, put}
+use Rattle.hb_core.specs.TypeForms.{Action, Arrow, Form, Of, at_one, arrow, arrows, form}
+use Rattle.hb_types.specs.Put.{put}
 use Rattle.hb_core.specs.View.{View, Target, Local, Constructor, Con, DataCon, BitCon, BitField}
 use Rattle.hb_core.specs.Environments.{node, rows_node}
 use Rattle.hb_core.specs.Matching.{con_of, field_named}
@@ -215,16 +216,20 @@ abbrev mutual
 
 -- ---- definitions
 
+-- a type of a function: what it takes and what it gives
+abbrev pub arrow_parts : Form → Option (Ty × Ty)
+arrow_parts (Of Arrow (a ∷ b ∷ [])) = Some (a, b)
+arrow_parts f = None
+
 -- a row of a definition whose type is written: each parameter has the type that stands at its place, and this belongs to its
 -- pattern; the result has what is left, and this belongs to the root of the row's expression
-abbrev mutual
-  pub signed_at : View → List Pat → Expr → Ty → List At
-  signed_at P [] e t = same_at (node e) (P.type_of (node e)) t
-  signed_at P (p ∷ ps) e t = parameter_at P p ps e t (form t)
+abbrev pub parameter_at : View → Pat → List Pat → Expr → Ty → Option (Ty × Ty) → (Ty → List At) → List At
+parameter_at P p ps e t (Some parts) rest = same_at (pat_node p) (P.type_of (pat_node p)) parts.0 ++ rest parts.1
+parameter_at P p ps e t None rest = same_at (pat_node p) t (arrows (row_types P (p ∷ ps)) (P.type_of (node e)))
 
-  pub parameter_at : View → Pat → List Pat → Expr → Ty → Form → List At
-  parameter_at P p ps e t (Of Arrow (a ∷ b ∷ [])) = same_at (pat_node p) (P.type_of (pat_node p)) a ++ signed_at P ps e b
-  parameter_at P p ps e t other = same_at (pat_node p) t (arrows (row_types P (p ∷ ps)) (P.type_of (node e)))
+abbrev pub signed_at : View → List Pat → Expr → Ty → List At
+signed_at P [] e t = same_at (node e) (P.type_of (node e)) t
+signed_at P (p ∷ ps) e t = parameter_at P p ps e t (arrow_parts (form t)) (λ u. signed_at P ps e u)
 
 -- the rows of such a definition
 abbrev pub rows_demands : View → (ℕ → Ty) → Equations → Ty → List At

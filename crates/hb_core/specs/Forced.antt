@@ -6,7 +6,8 @@ use Rattle.hb_base.specs.declared.name.Name.{Name}
 use Rattle.hb_types.specs.Types.{Ty, Unknown, Leaf, Apply}
 use Rattle.hb_types.specs.Closure.{Clashes}
 use Rattle.hb_types.specs.declared.scheme.Pred.{Pred}
-use Rattle.hb_core.specs.TypeForms.{TyCon, Declared, Ref, Form, Of, at_one, con_type, number_type, form, put, puts}
+use Rattle.hb_core.specs.TypeForms.{TyCon, Declared, Ref, Form, Of, at_one, con_type, number_type, form}
+use Rattle.hb_types.specs.Put.{puts}
 use Rattle.hb_core.specs.View.{View, Instance, BitCon, BitField, StructField}
 use Rattle.hb_core.specs.Facts.{is_fact, bit_width, cell_type, cell_bytes}
 use Rattle.hb_core.specs.Entailment.{Entails, pred_at}
@@ -29,11 +30,6 @@ pub data IsPredicate (d : Definition) (k : ℕ) : Pred → Type 0 where
   demanded : (n : ℕ) (p : Pred) → n ≤ k → Contains d.demands (at n (Follows p)) → IsPredicate d k p
   demanded_alone : (n : ℕ) (p : Pred) → n ≤ k → Contains d.demands (at n (FollowsAlone p)) → IsPredicate d k p
 
--- two lists of arguments agree at these places
-abbrev pub Agree : (Ty → Ty → Type 0) → List Ty → List Ty → List ℕ → Type 0
-Agree R ts us [] = Unit {0}
-Agree R ts us (i ∷ is) = ((t u : Ty) → slice_get ts i ≡ Some t → slice_get us i ≡ Some u → R t u) × Agree R ts us is
-
 -- what numbers force: of n + m = p any one from the other two, and the like; numbers run to 2^64 - 1
 pub data NumberForces : Pred → Ty → ℕ → Type 0 where
   sum_last : (n m : ℕ) (p : Ty) → n + m < 2 ^ 64 → NumberForces (pred_at 0 (number_type n ∷ number_type m ∷ p ∷ [])) p (n + m)
@@ -50,35 +46,47 @@ pub data FormForces (P : View) : Pred → Ty → Ty → Type 0 where
   width : (t n : Ty) (w : ℕ) → bit_width P (form t) ≡ Some w → FormForces P (pred_at 7 (t ∷ n ∷ [])) n (number_type w)
   content : (a t u : Ty) → cell_type (form a) ≡ Some u → FormForces P (pred_at 8 (a ∷ t ∷ [])) t u
 
--- two predicates whose arguments are the same one by one
-abbrev pub SamePred : (Ty → Ty → Type 0) → Pred → Pred → Type 0
-SamePred R p q = (p.class ≡ q.class) × SameEach p.args q.args
-  where
-    SameEach : List Ty → List Ty → Type 0
-    SameEach [] [] = Unit {0}
-    SameEach (t ∷ ts) (u ∷ us) = R t u × SameEach ts us
-    SameEach ts us = ⊥
+mutual
+  -- the least relation between types that has the equations of the nodes up to k, and is closed under equality, under taking
+  -- applied types apart, and under what predicates force
+  pub data Forced (P : View) (depends : ℕ → List Dependency) (d : Definition) (k : ℕ) : Ty → Ty → Type 0 where
+    stated : (n : ℕ) (t u : Ty) → n ≤ k → Contains d.demands (at n (Same t u)) → Forced P depends d k t u
+    same : (t : Ty) → Forced P depends d k t t
+    turn : (t u : Ty) → Forced P depends d k t u → Forced P depends d k u t
+    join : (t u w : Ty) → Forced P depends d k t u → Forced P depends d k u w → Forced P depends d k t w
+    build : (f g x y : Ty) → Forced P depends d k f g → Forced P depends d k x y → Forced P depends d k (Apply f x) (Apply g y)
+    function : (f g x y : Ty) → Forced P depends d k (Apply f x) (Apply g y) → Forced P depends d k f g
+    argument : (f g x y : Ty) → Forced P depends d k (Apply f x) (Apply g y) → Forced P depends d k x y
+    -- two predicates that agree at a dependency's left agree at its right
+    alike : (p q : Pred) (c : Dependency) (i : ℕ) (t u : Ty)
+      → IsPredicate d k p → IsPredicate d k q → p.class ≡ q.class → Contains (depends p.class) c
+      → AgreeAt P depends d k p.args q.args c.from
+      → Contains c.to i → slice_get p.args i ≡ Some t → slice_get q.args i ≡ Some u → Forced P depends d k t u
+    -- a predicate that agrees with an instance at a dependency's left takes the instance's right
+    instanced : (p : Pred) (m : ℕ) (h : Instance) (ts : List Ty) (c : Dependency) (i : ℕ) (t u : Ty)
+      → IsPredicate d k p → slice_get P.instances m ≡ Some h → h.class ≡ p.class → length ts ≡ h.variables → Contains (depends p.class) c
+      → AgreeAt P depends d k p.args (puts ts h.head) c.from
+      → Contains c.to i → slice_get p.args i ≡ Some t → slice_get (puts ts h.head) i ≡ Some u → Forced P depends d k t u
+    -- a predicate that is one whose numbers, bit data or cells force a type
+    numbered : (p q : Pred) (t : Ty) (n : ℕ)
+      → IsPredicate d k p → p.class ≡ q.class → AreSame P depends d k p.args q.args → NumberForces q t n → Forced P depends d k t (number_type n)
+    formed : (p q : Pred) (t u : Ty)
+      → IsPredicate d k p → p.class ≡ q.class → AreSame P depends d k p.args q.args → FormForces P q t u → Forced P depends d k t u
+    -- a selection forces its type from that of its value, and an update that of the field
+    selected : (n : ℕ) (t s u r : Ty) (x : Name)
+      → n ≤ k → Contains d.demands (at n (Selects t x u)) → Forced P depends d k t s → selected_type P s x ≡ Some r → Forced P depends d k u r
+    updated : (n : ℕ) (t s u r : Ty) (x : Name)
+      → n ≤ k → Contains d.demands (at n (Updates t x u)) → Forced P depends d k t s → bit_field_type P s x ≡ Some r → Forced P depends d k u r
 
--- the least relation between types that has the equations of the nodes up to k, and is closed under equality, under taking applied
--- types apart, and under what predicates force
-pub data Forced (P : View) (depends : ℕ → List Dependency) (d : Definition) (k : ℕ) : Ty → Ty → Type 0 where
-  stated : (n : ℕ) (t u : Ty) → n ≤ k → Contains d.demands (at n (Same t u)) → Forced P depends d k t u
-  same : (t : Ty) → Forced P depends d k t t
-  turn : (t u : Ty) → Forced P depends d k t u → Forced P depends d k u t
-  join : (t u w : Ty) → Forced P depends d k t u → Forced P depends d k u w → Forced P depends d k t w
-  build : (f g x y : Ty) → Forced P depends d k f g → Forced P depends d k x y → Forced P depends d k (Apply f x) (Apply g y)
-  function : (f g x y : Ty) → Forced P depends d k (Apply f x) (Apply g y) → Forced P depends d k f g
-  argument : (f g x y : Ty) → Forced P depends d k (Apply f x) (Apply g y) → Forced P depends d k x y
-  -- two predicates that agree at a dependency's left agree at its right
-  alike : (p q : Pred) (c : Dependency) (i : ℕ) (t u : Ty) → IsPredicate d k p → IsPredicate d k q → p.class ≡ q.class → Contains (depends p.class) c → Agree (Forced P depends d k) p.args q.args c.from → Contains c.to i → slice_get p.args i ≡ Some t → slice_get q.args i ≡ Some u → Forced P depends d k t u
-  -- a predicate that agrees with an instance at a dependency's left takes the instance's right
-  instanced : (p : Pred) (m : ℕ) (h : Instance) (ts : List Ty) (c : Dependency) (i : ℕ) (t u : Ty) → IsPredicate d k p → slice_get P.instances m ≡ Some h → h.class ≡ p.class → length ts ≡ h.variables → Contains (depends p.class) c → Agree (Forced P depends d k) p.args (puts ts h.head) c.from → Contains c.to i → slice_get p.args i ≡ Some t → slice_get (puts ts h.head) i ≡ Some u → Forced P depends d k t u
-  -- a predicate that is one whose numbers, bit data or cells force a type
-  numbered : (p q : Pred) (t : Ty) (n : ℕ) → IsPredicate d k p → SamePred (Forced P depends d k) p q → NumberForces q t n → Forced P depends d k t (number_type n)
-  formed : (p q : Pred) (t u : Ty) → IsPredicate d k p → SamePred (Forced P depends d k) p q → FormForces P q t u → Forced P depends d k t u
-  -- a selection forces its type from that of its value, and an update that of the field
-  selected : (n : ℕ) (t s u r : Ty) (x : Name) → n ≤ k → Contains d.demands (at n (Selects t x u)) → Forced P depends d k t s → selected_type P s x ≡ Some r → Forced P depends d k u r
-  updated : (n : ℕ) (t s u r : Ty) (x : Name) → n ≤ k → Contains d.demands (at n (Updates t x u)) → Forced P depends d k t s → bit_field_type P s x ≡ Some r → Forced P depends d k u r
+  -- two lists of types are the same one by one
+  pub data AreSame (P : View) (depends : ℕ → List Dependency) (d : Definition) (k : ℕ) : List Ty → List Ty → Type 0 where
+    none_same : AreSame P depends d k [] []
+    more_same : (t u : Ty) (ts us : List Ty) → Forced P depends d k t u → AreSame P depends d k ts us → AreSame P depends d k (t ∷ ts) (u ∷ us)
+
+  -- two lists of types agree at these places
+  pub data AgreeAt (P : View) (depends : ℕ → List Dependency) (d : Definition) (k : ℕ) : List Ty → List Ty → List ℕ → Type 0 where
+    at_none : (ts us : List Ty) → AgreeAt P depends d k ts us []
+    at_more : (ts us : List Ty) (i : ℕ) (is : List ℕ) (t u : Ty) → slice_get ts i ≡ Some t → slice_get us i ≡ Some u → Forced P depends d k t u → AgreeAt P depends d k ts us is → AgreeAt P depends d k ts us (i ∷ is)
 
 -- the equations of the nodes up to k clash: unlike types are one, or a type and a part of it; or a node up to k has no types at all
 abbrev pub ClashesAt : View → (ℕ → List Dependency) → Definition → ℕ → Type 0

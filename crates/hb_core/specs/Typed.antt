@@ -8,7 +8,8 @@ use Rattle.hb_types.specs.declared.scheme.Pred.{Pred}
 use Rattle.hb_types.specs.declared.scheme.Scheme.{Scheme}
 use Rattle.hb_tree.specs.Expressions.{Equations, NoEquations, MoreEquations}
 use Rattle.hb_tree.specs.Initials.{InitExpr, Each, Fields, Cell, FieldInits, NoFieldInits, MoreFieldInits}
-use Rattle.hb_core.specs.TypeForms.{Ix, Action, at_one, number_type, form, put}
+use Rattle.hb_core.specs.TypeForms.{Ix, Action, at_one, number_type, form}
+use Rattle.hb_types.specs.Put.{put}
 use Rattle.hb_core.specs.View.{View, Target, Top, Method, MethodOf, Instance, StructField, AreaDecl}
 use Rattle.hb_core.specs.Environments.{node, rows_node}
 use Rattle.hb_core.specs.Initialisation.{Elements}

@@ -132,7 +132,7 @@ fn new_parameters(equations: &mut KindEquations, count: usize) -> Result<Paramet
     ensures fine { OnOk result (AreFine equations.new) }
 {
     let first = equations.places.len();
-    for _ in 0..count {
+    for _number in 0..count {
         let place = equations.unknown()?;
         equations.keep(place)?;
     }
@@ -146,10 +146,8 @@ fn constructor_kind(equations: &mut KindEquations, slots: Parameters) -> Result<
     ensures known { IfOk result (λ place. place < type_count equations.new.unknowns) }
 {
     let mut kind = equations.star;
-    let mut left = slots.count;
-    while left > 0 {
-        left -= 1;
-        let from = equations.kept(slots.first.saturating_add(left));
+    for place in (0..slots.count).rev() {
+        let from = equations.kept(slots.first.saturating_add(place));
         kind = equations.arrow(from, kind)?;
     }
     Ok(kind)
@@ -174,7 +172,8 @@ impl Declared {
     {
         let mut meanings = Meanings::new(alloc, count)?;
         let mut constructors = Vec::new(alloc);
-        for (name, form) in BUILT_IN {
+        for entry in &BUILT_IN {
+            let (name, form) = *entry;
             let place = built_in_kind(equations, form)?;
             let slot = equations.keep(place)?;
             constructors.push(slot)?;

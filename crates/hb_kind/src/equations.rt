@@ -1,4 +1,4 @@
-ghost use Rattle.std.specs.Prelude.{◌≡◌, ◌<◌, ◌≤◌, IfOk, OnOk};
+ghost use Rattle.std.specs.Prelude.{◌≡◌, ◌<◌, ◌≤◌, slice_index_or, IfOk, OnOk};
 ghost use Rattle.hb_unknowns.specs.Equations.{type_count};
 ghost use Rattle.hb_kind.specs.Places.{AreFine};
 
@@ -29,6 +29,16 @@ pub struct KindEquations {
     pub pairs: Vec<Pair>,
 }
 
+/// The place in a slot, or another where the slot is none.
+fn place_at(places: &[usize], slot: usize, other: usize) -> usize
+    ensures { result ≡ slice_index_or places.now slot other }
+{
+    match places.get(slot) {
+        Some(place) => *place,
+        None => other,
+    }
+}
+
 impl KindEquations {
     /// No equations.
     pub fn new(alloc: Global) -> Result<KindEquations, Memory>
@@ -51,6 +61,7 @@ impl KindEquations {
     }
 
     /// A kind that is still to be found.
+    #[tactic(auto, using(crate::proofs::FineLaws::put_grows, crate::proofs::FineLaws::put_known, crate::proofs::FineLaws::put_more, crate::proofs::FineLaws::put_places, crate::proofs::FineLaws::put_pairs))]
     pub fn unknown(&mut self) -> Result<usize, Memory>
         requires fine { AreFine self.old }
         ensures fine { OnOk result (AreFine self.new) }
@@ -58,6 +69,20 @@ impl KindEquations {
         ensures grows { OnOk result (type_count self.old.unknowns ≤ type_count self.new.unknowns) }
     {
         let place = self.unknowns.fresh(Kind::star())?;
+        Ok(place)
+    }
+
+    /// A kind applied to one more.
+    #[tactic(auto, using(crate::proofs::FineLaws::put_grows, crate::proofs::FineLaws::put_known, crate::proofs::FineLaws::put_more, crate::proofs::FineLaws::put_places, crate::proofs::FineLaws::put_pairs))]
+    fn apply(&mut self, from: usize, to: usize) -> Result<usize, Memory>
+        requires fine { AreFine self.old }
+        requires from_known { from < type_count self.old.unknowns }
+        requires to_known { to < type_count self.old.unknowns }
+        ensures fine { OnOk result (AreFine self.new) }
+        ensures known { IfOk result (λ place. place < type_count self.new.unknowns) }
+        ensures grows { OnOk result (type_count self.old.unknowns ≤ type_count self.new.unknowns) }
+    {
+        let place = self.unknowns.apply(from, to)?;
         Ok(place)
     }
 
@@ -70,12 +95,13 @@ impl KindEquations {
         ensures known { IfOk result (λ place. place < type_count self.new.unknowns) }
         ensures grows { OnOk result (type_count self.old.unknowns ≤ type_count self.new.unknowns) }
     {
-        let half = self.unknowns.apply(self.arrow, from)?;
-        let whole = self.unknowns.apply(half, to)?;
+        let half = self.apply(self.arrow, from)?;
+        let whole = self.apply(half, to)?;
         Ok(whole)
     }
 
     /// The two kinds are to be one.
+    #[tactic(auto, using(crate::proofs::FineLaws::one_more_pair))]
     pub fn same(&mut self, a: usize, b: usize) -> Result<(), Memory>
         requires fine { AreFine self.old }
         requires a_known { a < type_count self.old.unknowns }
@@ -97,6 +123,7 @@ impl KindEquations {
     }
 
     /// Keeps a kind, and answers its slot.
+    #[tactic(auto, using(crate::proofs::FineLaws::one_more_place))]
     pub fn keep(&mut self, place: usize) -> Result<usize, Memory>
         requires fine { AreFine self.old }
         requires known { place < type_count self.old.unknowns }
@@ -109,13 +136,11 @@ impl KindEquations {
     }
 
     /// The kind in a slot.
+    #[tactic(auto, using(crate::proofs::FineLaws::place_or_in))]
     pub fn kept(&self, slot: usize) -> usize
         requires fine { AreFine self.now }
         ensures known { result < type_count self.now.unknowns }
     {
-        match self.places.get(slot) {
-            Some(place) => *place,
-            None => self.star,
-        }
+        place_at(&self.places, slot, self.star)
     }
 }

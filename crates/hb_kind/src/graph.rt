@@ -152,18 +152,18 @@ impl Search {
 
     /// The open nodes from this one on are one part; they are all on a cycle where there are several.
     fn close(&mut self, node: usize) {
-        let mut alone = true;
-        while let Some(last) = self.open.pop() {
+        let count = self.open.len();
+        for place in (0..count).rev() {
+            let Some(last) = self.open.pop() else {
+                return;
+            };
             if let Some(mark) = self.marks.get_mut(last) {
                 mark.open = false;
             }
-            if last != node {
-                alone = false;
+            if last != node || place + 1 < count {
                 self.found(last);
-            } else {
-                if !alone {
-                    self.found(node);
-                }
+            }
+            if last == node {
                 return;
             }
         }

@@ -1,4 +1,4 @@
-ghost use Rattle.std.specs.Prelude.{◌≡◌, ◌<◌, ◌≤◌, IfOk, OnOk};
+ghost use Rattle.std.specs.Prelude.{◌≡◌, ◌<◌, ℕ, OnOk};
 ghost use Rattle.hb_unknowns.specs.Graph.{AreWithin};
 ghost use Rattle.hb_unknowns.specs.Equations.{type_count};
 ghost use Rattle.hb_kind.specs.Places.{AreFine};
@@ -79,7 +79,10 @@ fn end_of(wholes: &[Whole], count: usize) -> usize {
 }
 
 /// The equations of the whole types from the first number on, and before the second.
-fn between<'a>(pairs: &'a [Pair], wholes: &[Whole], from: usize, to: usize) -> &'a [Pair] {
+#[tactic(auto, using(crate::proofs::FineLaws::within_take, crate::proofs::FineLaws::within_drop))]
+fn between<'a>(pairs: &'a [Pair], wholes: &[Whole], from: usize, to: usize) -> &'a [Pair]
+    ensures { (size : ℕ) → AreWithin size pairs.now → AreWithin size result.now }
+{
     let first = end_of(wholes, from);
     let last = end_of(wholes, to);
     match pairs.get(first..last) {
@@ -88,18 +91,25 @@ fn between<'a>(pairs: &'a [Pair], wholes: &[Whole], from: usize, to: usize) -> &
     }
 }
 
+/// How often what is left is halved at most: a count has 64 bits.
+const TURNS: u32 = 66;
+
 /// How many of the whole types have kinds together, from the first on: halves of what is left are tried.
 fn solvable(unknowns: &mut Unknowns, pairs: &[Pair], wholes: &[Whole]) -> Result<usize, Memory>
     requires within { AreWithin (type_count unknowns.old) pairs.now }
     ensures within { OnOk result (AreWithin (type_count unknowns.new) pairs.now) }
 {
+    let count = wholes.len();
     let mut good = 0;
-    let mut bad = wholes.len() + 1;
-    while bad - good > 1 {
-        let middle = if good == 0 && bad == wholes.len() + 1 {
-            wholes.len()
+    let mut bad = count.saturating_add(1);
+    for turn in 0..TURNS {
+        if bad.saturating_sub(good) <= 1 {
+            return Ok(good);
+        }
+        let middle = if turn == 0 {
+            count
         } else {
-            good + (bad - good) / 2
+            good.saturating_add(bad.saturating_sub(good) / 2)
         };
         match unknowns.equate_all(between(pairs, wholes, good, middle)) {
             Ok(()) => good = middle,

@@ -54,21 +54,18 @@ impl Variables {
 
     /// A new group: no variable is known.
     fn clear(&mut self) {
-        while let Some(name) = self.bound.pop() {
+        for name in &self.bound {
             if let Some(entry) = self.slots.get_mut(name.0 as usize) {
                 *entry = None;
             }
         }
+        self.bound.clear();
     }
 
     /// The parameters of a declared type or class are variables; where a name comes twice, the first one counts.
     fn bind_all(&mut self, params: &[NameAt], slots: Parameters) -> Result<(), Memory> {
-        let mut left = params.len();
-        while left > 0 {
-            left -= 1;
-            if let Some(param) = params.get(left) {
-                self.bind(param.name, slots.first.saturating_add(left))?;
-            }
+        for (place, param) in params.iter().enumerate().rev() {
+            self.bind(param.name, slots.first.saturating_add(place))?;
         }
         Ok(())
     }

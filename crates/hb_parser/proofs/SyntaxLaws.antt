@@ -10,7 +10,7 @@ use Rattle.hb_tokens.specs.Ends.{is_end_kind, ends_once}
 use Rattle.hb_tree.specs.declared.declaration.Program.{Program}
 use Rattle.hb_grammar.specs.Tokens.{IsEnd}
 use Rattle.hb_grammar.specs.Declarations.{Derives}
-use Rattle.hb_grammar.specs.Reading.{Reader, Runs, stop, take, Reached, after, Exact}
+use Rattle.hb_grammar.specs.Reading.{Reader, Runs, stop, take, Reached, after as after_token, Exact}
 use Rattle.hb_grammar.proofs.FirstWrong.{LeadsTo, here, taken, leads_runs, taken_can_go_on, refused_ends}
 use Rattle.hb_read_declarations.specs.declared.node.DeclNode.{DeclNode}
 use Rattle.hb_read_declarations.specs.Nodes.{program_nodes}
@@ -79,7 +79,7 @@ and_right false b e = cc
 pub all_taken : {S : Type 0} {reader : Reader S (List DeclNode)} {s r : S} {ts : List Token} → ((t : Token) → IsEnd t → (s r : S) → Reached reader s → reader.move s t ≡ Some r → is_some (reader.done r) ≡ true) → Reached reader s → LeadsTo reader s ts r → ends_once ts ≡ true → is_some (reader.done r) ≡ true
 all_taken ends h here e = cc
 all_taken ends h (taken {s} {r} {t} m here) e = ends t (is_end t.kind e) s r h m
-all_taken ends h (taken {t} m (taken {t = u} {ts} n l)) e = all_taken ends (after h m) (taken n l) (and_right (not (is_end_kind t.kind)) (ends_once (u ∷ ts)) e)
+all_taken ends h (taken {t} m (taken {t = u} {ts} n l)) e = all_taken ends (after_token h m) (taken n l) (and_right (not (is_end_kind t.kind)) (ends_once (u ∷ ts)) e)
 
 -- The first wrong token is one, and there is none in a program.
 

@@ -5,13 +5,13 @@ use Rattle.hb_parser.proofs.parsing.read_nodes.Goals as goal
 pub loop-token-init : goal.loop-token-init
 loop-token-init c = nothing_read c.args.tokens.now c.in_ok-reader.ensures.start
 
-pub returns-then-not-branch : goal.returns-then-not-branch
-returns-then-not-branch c =
-    wrong_here c.args.tokens.now c.loop-token.token-index _ c.loop-token-test.true c.loop-token.invariant (rw c.if-not-branch.true at c.in_ok-take.ensures)
+pub returns-in-None : goal.returns-in-None
+returns-in-None c =
+    wrong_here c.args.tokens.now c.loop-token.token-index _ c.loop-token-test.true c.loop-token.invariant (sym c.in_ok-next.ensures ∙ c.in-None.is)
 
 pub loop-token-preserved : goal.loop-token-preserved
 loop-token-preserved c =
-    one_more_read c.args.tokens.now c.loop-token.token-index _ c.loop-token-test.true c.loop-token.invariant (rw c.if-not-branch.false at c.in_ok-take.ensures)
+    one_more_read c.args.tokens.now c.loop-token.token-index _ c.loop-token-test.true c.loop-token.invariant (sym c.in_ok-next.ensures ∙ c.in-Some.is)
 
 pub unwrap-nodes-requires : goal.unwrap-nodes-requires
 unwrap-nodes-requires c =
