@@ -97,10 +97,10 @@ const TURNS: u32 = 66;
 /// How many of the whole types have kinds together, from the first on: halves of what is left are tried.
 fn solvable(unknowns: &mut Unknowns, pairs: &[Pair], wholes: &[Whole]) -> Result<usize, Memory>
     requires within { AreWithin (type_count unknowns.old) pairs.now }
-    ensures within { OnOk result (AreWithin (type_count unknowns.new) pairs.now) }
+    ensures same { OnOk result (type_count unknowns.new ≡ type_count unknowns.old) }
 {
     let count = wholes.len();
-    let mut good = 0;
+    let mut good: usize = 0;
     let mut bad = count.saturating_add(1);
     for turn in 0..TURNS {
         if bad.saturating_sub(good) <= 1 {
@@ -120,9 +120,24 @@ fn solvable(unknowns: &mut Unknowns, pairs: &[Pair], wholes: &[Whole]) -> Result
     Ok(good)
 }
 
-/// The first whole type with a sum where none may stand.
+/// The first whole type with a sum where none may stand, by its number.
 fn first_sum(wholes: &[Whole]) -> Option<usize> {
     wholes.iter().position(|whole| whole.wrong_sum)
+}
+
+/// The first fault, where so many whole types have kinds together.
+fn check(alloc: Global, wholes: &[Whole], good: usize) -> Result<(), Fault> {
+    if let Some(sum) = first_sum(wholes) {
+        if let Some(whole) = wholes.get(sum) {
+            if sum <= good {
+                return Err(refused(alloc, Code::E10, whole.place, b"sum"));
+            }
+        }
+    }
+    match wholes.get(good) {
+        Some(whole) => Err(refused(alloc, Code::E10, whole.place, b"kind")),
+        None => Ok(()),
+    }
 }
 
 /// Each kind that nothing fixes is that of types.
@@ -138,6 +153,24 @@ fn default_to_star(unknowns: &mut Unknowns, star: usize) -> Result<(), Memory>
         }
     }
     Ok(())
+}
+
+impl KindEquations {
+    /// Takes in the equations of the whole types as far as they have kinds together, and answers how many these are.
+    fn solve(&mut self, wholes: &[Whole]) -> Result<usize, Memory>
+        requires fine { AreFine self.old }
+        ensures fine { OnOk result (AreFine self.new) }
+    {
+        solvable(&mut self.unknowns, &self.pairs, wholes)
+    }
+
+    /// Gives each kind that nothing fixes the kind of types.
+    fn settle(&mut self) -> Result<(), Memory>
+        requires fine { AreFine self.old }
+        ensures fine { OnOk result (AreFine self.new) }
+    {
+        default_to_star(&mut self.unknowns, self.star)
+    }
 }
 
 /// The places of the kinds in slots, in the table of all kinds.
@@ -210,23 +243,8 @@ pub fn kinds(alloc: Global, tree: &Resolved) -> Result<KindTable, Fault> {
         wholes,
         ..
     } = walk;
-    let good = solvable(
-        &mut equations.unknowns,
-        equations.pairs.as_slice(),
-        wholes.as_slice(),
-    )?;
-    match first_sum(wholes.as_slice()) {
-        Some(sum) if sum <= good => return Err(refused(
-            alloc,
-            Code::E10,
-            wholes[sum].place,
-            b"sum",
-        )),
-        _ => {}
-    }
-    if good < wholes.len() {
-        return Err(refused(alloc, Code::E10, wholes[good].place, b"kind"));
-    }
-    default_to_star(&mut equations.unknowns, equations.star)?;
+    let good = equations.solve(wholes.as_slice())?;
+    check(alloc, wholes.as_slice(), good)?;
+    equations.settle()?;
     Ok(table(alloc, &equations, &declared.slots)?)
 }

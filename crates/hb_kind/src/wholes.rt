@@ -261,16 +261,16 @@ impl Walk {
         ensures fine { OnOk result (AreFine self.new.equations) }
     {
         let count = wants.count();
-        let mut place = 0;
+        let mut place: usize = 0;
         for t in args {
-            let is_last = place + 1 == args.len();
+            let is_last = place.saturating_add(1) == args.len();
             let wanted = if is_last && args.len() != count {
                 Wanted::Never
             } else {
                 wants.at(place)
             };
             self.whole(signed, wanted, t)?;
-            place += 1;
+            place = place.saturating_add(1);
         }
         Ok(())
     }
