@@ -50,9 +50,12 @@ is_none target.None = true
 is_none t = false
 
 -- a name that is used and means nothing
+abbrev pub name_flaws : Place → Option Name → Target → List NameAt
+name_flaws at None t = []
+name_flaws at (Some x) t = if is_none t then record { place = at; name = x } ∷ [] else []
+
 abbrev pub use_flaws : Use → List NameAt
-use_flaws (record { place = at; name = None; target = t }) = []
-use_flaws (record { place = at; name = Some x; target = t }) = if is_none t then record { place = at; name = x } ∷ [] else []
+use_flaws u = name_flaws u.place u.name u.target
 
 abbrev pub uses_flaws : List Use → List NameAt
 uses_flaws [] = []

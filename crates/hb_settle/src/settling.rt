@@ -50,21 +50,38 @@ impl Settler {
         Ok(())
     }
 
+    /// Puts a declaration that is no definition, settled, behind those that are done, and the rows before it.
+    fn other(&mut self, rows: Rows, mut decl: Decl, done: &mut List<Decl>) -> Result<(), Memory> {
+        put_all(rows, done)?;
+        self.inside(&mut decl)?;
+        done.push(decl)?;
+        Ok(())
+    }
+
+    /// Takes in one declaration, and answers the rows that wait.
+    fn declaration(
+        &mut self,
+        rows: Rows,
+        decl: Decl,
+        done: &mut List<Decl>,
+    ) -> Result<Rows, Memory> {
+        match self.top(&decl)? {
+            Some(bind) => {
+                let more = rows.put(bind, &mut self.uneven)?;
+                Ok(more)
+            }
+            None => {
+                self.other(rows, decl, done)?;
+                Ok(Rows::new(self.alloc))
+            }
+        }
+    }
+
     /// Puts the declarations of a program, settled, behind those that are done.
     fn program(&mut self, program: Program, done: &mut List<Decl>) -> Result<(), Memory> {
         let mut rows = Rows::new(self.alloc);
-        for mut decl in program.decls.into_items() {
-            match self.top(&decl)? {
-                Some(bind) => {
-                    rows = rows.put(bind, &mut self.uneven)?;
-                }
-                None => {
-                    put_all(rows, done)?;
-                    rows = Rows::new(self.alloc);
-                    self.inside(&mut decl)?;
-                    done.push(decl)?;
-                }
-            }
+        for decl in program.decls.into_items() {
+            rows = self.declaration(rows, decl, done)?;
         }
         put_all(rows, done)
     }
