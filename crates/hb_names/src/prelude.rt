@@ -1,5 +1,6 @@
 ghost use Rattle.std.specs.Prelude.{◌≡◌, ◌≤◌, ◌<◌, ◌^◌, ◌+◌, length, IfOk, IsTrue};
 ghost use Rattle.hb_tokens.specs.Ends.{ends_once};
+ghost use Rattle.hb_names.specs.Moved.{moved_to, nowhere};
 
 use hb_base::{Fault, List, Memory, Names, Place};
 use hb_front::laid_tokens;
@@ -13,8 +14,10 @@ use std::alloc::Global;
 const NOWHERE: Place = Place { line: 0, col: 0 };
 
 /// The same tokens at 0:0.
+#[tactic(auto, using(crate::proofs::MovedLaws::moved_end))]
 fn nowhere(alloc: Global, tokens: &Tokens) -> Result<Tokens, Memory>
     requires end { IsTrue (ends_once tokens.now.list) }
+    ensures moved { IfOk result (λ moved. moved.list ≡ moved_to nowhere tokens.now.list) }
     ensures end { IfOk result (λ moved. IsTrue (ends_once moved.list)) }
 {
     let mut moved = List::of(Vec::new(alloc));
