@@ -59,24 +59,24 @@ mutual
     argument : (f g x y : Ty) → Forced P depends d k (Apply f x) (Apply g y) → Forced P depends d k x y
     -- two predicates that agree at a dependency's left agree at its right
     alike : (p q : Pred) (c : Dependency) (i : ℕ) (t u : Ty)
-      → IsPredicate d k p → IsPredicate d k q → p.class ≡ q.class → Contains (depends p.class) c
-      → AgreeAt P depends d k p.args q.args c.from
-      → Contains c.to i → slice_get p.args i ≡ Some t → slice_get q.args i ≡ Some u → Forced P depends d k t u
+        → IsPredicate d k p → IsPredicate d k q → p.class ≡ q.class → Contains (depends p.class) c
+        → AgreeAt P depends d k p.args q.args c.from
+        → Contains c.to i → slice_get p.args i ≡ Some t → slice_get q.args i ≡ Some u → Forced P depends d k t u
     -- a predicate that agrees with an instance at a dependency's left takes the instance's right
     instanced : (p : Pred) (m : ℕ) (h : Instance) (ts : List Ty) (c : Dependency) (i : ℕ) (t u : Ty)
-      → IsPredicate d k p → slice_get P.instances m ≡ Some h → h.class ≡ p.class → length ts ≡ h.variables → Contains (depends p.class) c
-      → AgreeAt P depends d k p.args (puts ts h.head) c.from
-      → Contains c.to i → slice_get p.args i ≡ Some t → slice_get (puts ts h.head) i ≡ Some u → Forced P depends d k t u
+        → IsPredicate d k p → slice_get P.instances m ≡ Some h → h.class ≡ p.class → length ts ≡ h.variables → Contains (depends p.class) c
+        → AgreeAt P depends d k p.args (puts ts h.head) c.from
+        → Contains c.to i → slice_get p.args i ≡ Some t → slice_get (puts ts h.head) i ≡ Some u → Forced P depends d k t u
     -- a predicate that is one whose numbers, bit data or cells force a type
     numbered : (p q : Pred) (t : Ty) (n : ℕ)
-      → IsPredicate d k p → p.class ≡ q.class → AreSame P depends d k p.args q.args → NumberForces q t n → Forced P depends d k t (number_type n)
+        → IsPredicate d k p → p.class ≡ q.class → AreSame P depends d k p.args q.args → NumberForces q t n → Forced P depends d k t (number_type n)
     formed : (p q : Pred) (t u : Ty)
-      → IsPredicate d k p → p.class ≡ q.class → AreSame P depends d k p.args q.args → FormForces P q t u → Forced P depends d k t u
+        → IsPredicate d k p → p.class ≡ q.class → AreSame P depends d k p.args q.args → FormForces P q t u → Forced P depends d k t u
     -- a selection forces its type from that of its value, and an update that of the field
     selected : (n : ℕ) (t s u r : Ty) (x : Name)
-      → n ≤ k → Contains d.demands (at n (Selects t x u)) → Forced P depends d k t s → selected_type P s x ≡ Some r → Forced P depends d k u r
+        → n ≤ k → Contains d.demands (at n (Selects t x u)) → Forced P depends d k t s → selected_type P s x ≡ Some r → Forced P depends d k u r
     updated : (n : ℕ) (t s u r : Ty) (x : Name)
-      → n ≤ k → Contains d.demands (at n (Updates t x u)) → Forced P depends d k t s → bit_field_type P s x ≡ Some r → Forced P depends d k u r
+        → n ≤ k → Contains d.demands (at n (Updates t x u)) → Forced P depends d k t s → bit_field_type P s x ≡ Some r → Forced P depends d k u r
 
   -- two lists of types are the same one by one
   pub data AreSame (P : View) (depends : ℕ → List Dependency) (d : Definition) (k : ℕ) : List Ty → List Ty → Type 0 where
