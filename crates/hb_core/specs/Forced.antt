@@ -1,18 +1,17 @@
 -- Which equations between types the typing rules force on a definition, and the typing that is forced.
-use Rattle.std.specs.Prelude.{◌≡◌, ◌⊎◌, ℕ, zero, suc, ◌+◌, ◌*◌, ◌^◌, ◌<◌, ◌≤◌, List, [], ◌∷◌, length, slice_get, Option, Some, None, option_map, option_and_then, find}
-use Rattle.std.specs.Prelude.{◌==◌}
+use Rattle.std.specs.Prelude.{◌≡◌, ◌⊎◌, ℕ, ◌+◌, ◌*◌, ◌^◌, ◌<◌, ◌≤◌, List, [], ◌∷◌, length, slice_get, Some}
 use Rattle.std.specs.List.{Contains}
 use Rattle.hb_base.specs.declared.name.Name.{Name}
-use Rattle.hb_types.specs.Types.{Ty, Unknown, Leaf, Apply}
+use Rattle.hb_types.specs.Types.{Ty, Apply}
 use Rattle.hb_types.specs.Closure.{Clashes}
 use Rattle.hb_types.specs.declared.scheme.Pred.{Pred}
-use Rattle.hb_core.specs.TypeForms.{TyCon, Declared, Ref, Form, Of, at_one, con_type, number_type, form}
+use Rattle.hb_core.specs.TypeForms.{number_type, form}
 use Rattle.hb_types.specs.Put.{puts}
-use Rattle.hb_core.specs.View.{View, Instance, BitCon, BitField, StructField}
-use Rattle.hb_core.specs.Facts.{is_fact, bit_width, cell_type, cell_bytes}
-use Rattle.hb_core.specs.Entailment.{Entails, pred_at}
+use Rattle.hb_core.specs.View.{View, Instance}
+use Rattle.hb_core.specs.Facts.{bit_width, cell_type}
+use Rattle.hb_core.specs.Entailment.{pred_at}
 use Rattle.hb_core.specs.ExpressionTypes.{bit_field_type, selected_type}
-use Rattle.hb_core.specs.Demands.{Demand, Same, Follows, FollowsAlone, Selects, Updates, Never, At, at}
+use Rattle.hb_core.specs.Demands.{Same, Follows, FollowsAlone, Selects, Updates, Never, At, at}
 
 -- a dependency of a class: the parameters at these places tell those at others
 pub record Dependency : Type 0 where

@@ -1,22 +1,22 @@
 -- The typing that a source forces: the annotation whose types are those that the equations of its definitions force, and where there
 -- is none.
-use Rattle.std.specs.Prelude.{◌≡◌, ◌⊎◌, ℕ, zero, suc, ◌<◌, ◌-◌, ◌==◌, if◌then◌else◌, List, [], ◌∷◌, ◌++◌, length, drop, slice_get, find, Option, Some, None, option_map, option_and_then}
+use Rattle.std.specs.Prelude.{◌≡◌, ◌⊎◌, ℕ, suc, ◌<◌, ◌==◌, if◌then◌else◌, List, [], ◌∷◌, ◌++◌, length, drop, slice_get, find, Option, Some, None, option_map, option_and_then}
 use Rattle.std.specs.List.{Contains}
 use Rattle.hb_types.specs.Types.{Ty, Unknown}
 use Rattle.hb_types.specs.Instance.{IsKnown}
 use Rattle.hb_types.specs.declared.scheme.Pred.{Pred}
 use Rattle.hb_types.specs.declared.scheme.Scheme.{Scheme}
-use Rattle.hb_tree.specs.Expressions.{Equations, NoEquations, MoreEquations}
+use Rattle.hb_tree.specs.Expressions.{Equations}
 use Rattle.hb_tree.specs.Initials.{InitExpr, Each, Fields, Cell, FieldInits, NoFieldInits, MoreFieldInits}
 use Rattle.hb_core.specs.TypeForms.{Ix, Action, at_one, number_type, form}
 use Rattle.hb_types.specs.Put.{put}
-use Rattle.hb_core.specs.View.{View, Target, Top, Method, MethodOf, Instance, StructField, AreaDecl}
+use Rattle.hb_core.specs.View.{View, Top, Method, MethodOf, Instance, StructField, AreaDecl}
 use Rattle.hb_core.specs.Environments.{node, rows_node}
 use Rattle.hb_core.specs.Initialisation.{Elements}
 use Rattle.hb_core.specs.Facts.{cell_type}
 use Rattle.hb_core.specs.Entailment.{Entails, put_preds}
 use Rattle.hb_core.specs.SourceTypes.{Fits, method_types, each_in, struct_in}
-use Rattle.hb_core.specs.Demands.{Demand, Same, Follows, FollowsAlone, Never, At, at, same_at, expr_demands, rows_demands}
+use Rattle.hb_core.specs.Demands.{Follows, FollowsAlone, Never, At, at, same_at, expr_demands, rows_demands}
 use Rattle.hb_core.specs.Forced.{Dependency, Definition, Forced, ClashesAt}
 
 -- ---- unknowns in the place of types
