@@ -2,7 +2,7 @@ use crate::{KindTable, finite_data, kinds};
 use hb_base::{Code, Fault, List, Memory, Name, Names, Place};
 use hb_resolved::Resolved;
 use hb_tree::{DataCon, Decl, FieldDecl, NameAt, PredExpr, Program, Sig, StructPart, TypeExpr};
-use hb_types::{Atom, Form};
+use hb_types::{Atom, Form, Types};
 use std::alloc::Global;
 use std::test::Fail;
 
@@ -101,14 +101,19 @@ fn resolved(alloc: Global, names: Names, decls: List<Decl>) -> Resolved {
     }
 }
 
-/// The form of the kind of a type constructor.
-fn form_of(table: &KindTable, number: u32) -> Option<Form> {
-    let place = table.of(number)?;
-    if place < table.kinds().len() {
-        Some(table.kinds().form(place))
+/// The form of the kind at a place, if it is one.
+fn form_at(kinds: &Types, place: usize) -> Option<Form> {
+    if place < kinds.len() {
+        Some(kinds.form(place))
     } else {
         None
     }
+}
+
+/// The form of the kind of a type constructor.
+fn form_of(table: &KindTable, number: u32) -> Option<Form> {
+    let place = table.of(number)?;
+    form_at(table.kinds(), place)
 }
 
 /// The refusal's column, where its code and detail are these.
@@ -148,12 +153,8 @@ fn a_parameter_that_nothing_fixes_is_a_type(rt: HostRuntime) -> Result<(), Fail>
     // The kind of T is an arrow applied to two kinds of types.
     match form_of(&table, 13) {
         Some(Form::Apply(half, to)) => {
-            assert!(rt;
-                table.kinds().len() > to && table.kinds().form(to) == Form::Leaf(Atom::Con(0))
-            );
-            assert!(rt;
-                table.kinds().len() > half && matches!(table.kinds().form(half), Form::Apply(_, _))
-            );
+            assert!(rt; form_at(table.kinds(), to) == Some(Form::Leaf(Atom::Con(0))));
+            assert!(rt; matches!(form_at(table.kinds(), half), Some(Form::Apply(_, _))));
         }
         _ => assert!(rt; false),
     }
