@@ -49,6 +49,14 @@ pub struct Constructor {
     pub arguments: List<usize>,
 }
 
+/// What a declared type is: a data type, a bitdata type of so many bits, or a struct.
+#[derive(Clone, Copy, Debug, PartialEq, Eq)]
+pub enum DeclaredForm {
+    Data,
+    Bits(u32),
+    Struct,
+}
+
 /// How an area, or a part of one, begins: a cell gets what a body gives for the indices round it; each element of an array; or some
 /// fields of a struct, each so many bytes on. Cells that nothing begins hold zero.
 #[cycle(starts)]
@@ -60,12 +68,13 @@ pub enum Start {
     Fields(List<(u32, Start)>),
 }
 
-/// A ground program: the table of its types (of constructors' arguments over variables too), all constructors of the source, the
-/// needed instances (the first is `main`), their bodies in the order of the instances, each with the bodies inside of it behind it in
-/// node order, and for each area how it begins. `nodes` is how many numbers nodes have.
+/// A ground program: the table of its types (of constructors' arguments over variables too), what each declared type is, all
+/// constructors of the source, the needed instances (the first is `main`), their bodies in the order of the instances, each with the
+/// bodies inside of it behind it in node order, and for each area how it begins. `nodes` is how many numbers nodes have.
 #[derive(Debug, Drop)]
 pub struct Mono {
     pub types: Types,
+    pub data: List<DeclaredForm>,
     pub constructors: List<Constructor>,
     pub instances: List<Instance>,
     pub bodies: List<Body>,

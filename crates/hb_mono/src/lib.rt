@@ -5,6 +5,6 @@ mod body;
 mod expression;
 mod pattern;
 
-pub use body::{Body, BodyKind, Constructor, Instance, Mono, Source, Start};
+pub use body::{Body, BodyKind, Constructor, DeclaredForm, Instance, Mono, Source, Start};
 pub use expression::{Binding, Bits, Capture, Expr, ExprForm, FieldExpr, Row, Stmt};
 pub use pattern::{At, FieldPat, Pat, PatForm};
