@@ -1,4 +1,0 @@
-pub mod MTypes
-pub mod MTypeCodes
-pub mod MTypeViews
-pub mod MTypeFalls
