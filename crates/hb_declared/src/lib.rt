@@ -6,6 +6,7 @@ mod form;
 mod items;
 mod numbers;
 mod reader;
+mod signatures;
 mod types;
 mod writer;
 
@@ -14,3 +15,4 @@ pub use form::{
     Definition, Depends, Instance, Method, Port, Scheme, StructField, StructPart, Top, TypeForm,
 };
 pub use reader::declared;
+pub use signatures::{Signatures, Signed, read_signatures};

@@ -2,6 +2,8 @@
 #![tactic(auto)]
 
 mod nowhere;
+mod primitives;
 mod reading;
 
-pub use reading::{read_prelude, read_source};
+pub use primitives::PRIMITIVES;
+pub use reading::{Source, read_source};

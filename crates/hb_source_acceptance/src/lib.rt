@@ -6,4 +6,6 @@ mod layout_rows;
 #[cfg(test)]
 mod name_rows;
 #[cfg(test)]
+mod primitive_rows;
+#[cfg(test)]
 mod told;

@@ -4,7 +4,7 @@ use hb_declared::declared;
 use hb_kind::{finite_data, kinds};
 use hb_layouts::lay_out;
 use hb_resolved::Resolved;
-use hb_source::read_source;
+use hb_source::{Source, read_source};
 use std::alloc::Global;
 use std::test::Fail;
 
@@ -29,7 +29,7 @@ fn look(alloc: Global, source: &[u8]) -> Result<(), Fault> {
     if source.len() > 1_048_576 {
         return Err(Fault::Memory);
     }
-    let tree = read_source(alloc, source)?;
+    let Source { tree, .. } = read_source(alloc, source)?;
     kinds(alloc, &tree)?;
     finite_data(alloc, &tree)?;
     memory_of(alloc, &tree)

@@ -76,6 +76,17 @@ fn held(home: Home) -> u32 {
     }
 }
 
+/// Sets a word of a home.
+fn put(words: &mut [Option<u32>], word: u32, value: Option<u32>) -> Result<(), End> {
+    match words.get_mut(word as usize) {
+        Some(slot) => {
+            *slot = value;
+            Ok(())
+        }
+        None => Err(End::Wrong),
+    }
+}
+
 /// Both homes are one.
 fn is_same_home(a: Home, b: Home) -> bool {
     a == b
@@ -157,17 +168,10 @@ impl<'a> Machine<'a> {
     }
 
     fn set(&mut self, home: Home, word: u32, value: Option<u32>) -> Result<(), End> {
-        let slot = match home {
-            Home::Stack(_) => self.now.words.get_mut(word as usize),
-            Home::Shared => self.shared.get_mut(word as usize),
-            Home::Start => self.start.get_mut(word as usize),
-        };
-        match slot {
-            Some(slot) => {
-                *slot = value;
-                Ok(())
-            }
-            None => Err(End::Wrong),
+        match home {
+            Home::Stack(_) => put(&mut self.now.words, word, value),
+            Home::Shared => put(&mut self.shared, word, value),
+            Home::Start => put(&mut self.start, word, value),
         }
     }
 

@@ -1,3 +1,6 @@
+ghost use Rattle.std.specs.Prelude.{◌≡◌, ◌++◌, OnOk};
+ghost use Rattle.hb_word_steps.specs.Code.{halves_exchanged_code, joined_code, read_code, turned_code, turned_halves_code, write_code};
+
 use crate::push::{push_alu, push_load, push_multiply, push_set, push_store};
 use hb_area::CellForm;
 use hb_asm::AluOp;
@@ -14,7 +17,9 @@ fn push_turned_halves(
     word: u32,
     a: Operand,
     second: u32,
-) -> Result<(), Memory> {
+) -> Result<(), Memory>
+    ensures { OnOk result (steps.new ≡ steps.old ++ turned_halves_code word a second) }
+{
     let eight = Operand::Number(8);
     push_alu(steps, second, AluOp::And, a, EVEN_BYTES)?;
     push_alu(steps, second, AluOp::Sll, Operand::Word(second), eight)?;
@@ -23,14 +28,18 @@ fn push_turned_halves(
 }
 
 /// Puts the steps that set a word to its even bytes, joined with those of a second word.
-fn push_joined(steps: &mut List<Step>, word: u32, second: u32) -> Result<(), Memory> {
+fn push_joined(steps: &mut List<Step>, word: u32, second: u32) -> Result<(), Memory>
+    ensures { OnOk result (steps.new ≡ steps.old ++ joined_code word second) }
+{
     let (low, high) = (Operand::Word(word), Operand::Word(second));
     push_alu(steps, word, AluOp::And, low, EVEN_BYTES)?;
     push_alu(steps, word, AluOp::Or, low, high)
 }
 
 /// Puts the steps that exchange the halves of a word. They set a second word too.
-fn push_halves_exchanged(steps: &mut List<Step>, word: u32, second: u32) -> Result<(), Memory> {
+fn push_halves_exchanged(steps: &mut List<Step>, word: u32, second: u32) -> Result<(), Memory>
+    ensures { OnOk result (steps.new ≡ steps.old ++ halves_exchanged_code word second) }
+{
     let (low, high) = (Operand::Word(word), Operand::Word(second));
     let half = Operand::Number(16);
     push_alu(steps, second, AluOp::Sll, low, half)?;
@@ -45,7 +54,9 @@ fn push_turned(
     a: Operand,
     bytes: u8,
     second: u32,
-) -> Result<(), Memory> {
+) -> Result<(), Memory>
+    ensures { OnOk result (steps.new ≡ steps.old ++ turned_code word a bytes second) }
+{
     if bytes == 1 {
         return push_set(steps, word, a);
     }
@@ -63,7 +74,9 @@ pub fn push_read_cell(
     address: Operand,
     form: CellForm,
     second: u32,
-) -> Result<(), Memory> {
+) -> Result<(), Memory>
+    ensures { OnOk result (steps.new ≡ steps.old ++ read_code word address form second) }
+{
     push_load(steps, word, address, form.bytes)?;
     if form.big {
         return push_turned(steps, word, Operand::Word(word), form.bytes, second);
@@ -78,7 +91,9 @@ pub fn push_write_cell(
     form: CellForm,
     value: Operand,
     words: (u32, u32),
-) -> Result<(), Memory> {
+) -> Result<(), Memory>
+    ensures { OnOk result (steps.new ≡ steps.old ++ write_code address form value words.0 words.1) }
+{
     if form.big {
         push_turned(steps, words.0, value, form.bytes, words.1)?;
         return push_store(steps, address, form.bytes, Operand::Word(words.0));

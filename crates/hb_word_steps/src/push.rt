@@ -1,9 +1,14 @@
+ghost use Rattle.std.specs.Prelude.{◌≡◌, [], ◌∷◌, ◌++◌, OnOk};
+ghost use Rattle.hb_frames.specs.declared.form.Step.TheVariants as step;
+
 use hb_asm::AluOp;
 use hb_base::{List, Memory};
 use hb_frames::{Operand, Step};
 
 /// Puts the step that sets a word to an operand.
-pub fn push_set(steps: &mut List<Step>, word: u32, a: Operand) -> Result<(), Memory> {
+pub fn push_set(steps: &mut List<Step>, word: u32, a: Operand) -> Result<(), Memory>
+    ensures { OnOk result (steps.new ≡ steps.old ++ step.Set word a ∷ []) }
+{
     steps.push(Step::Set(word, a))?;
     Ok(())
 }
@@ -15,7 +20,9 @@ pub fn push_alu(
     op: AluOp,
     a: Operand,
     b: Operand,
-) -> Result<(), Memory> {
+) -> Result<(), Memory>
+    ensures { OnOk result (steps.new ≡ steps.old ++ step.Alu word op a b ∷ []) }
+{
     steps.push(Step::Alu(word, op, a, b))?;
     Ok(())
 }
@@ -26,7 +33,9 @@ pub fn push_load(
     word: u32,
     address: Operand,
     bytes: u8,
-) -> Result<(), Memory> {
+) -> Result<(), Memory>
+    ensures { OnOk result (steps.new ≡ steps.old ++ step.Load word address bytes ∷ []) }
+{
     steps.push(Step::Load(word, address, bytes))?;
     Ok(())
 }
@@ -37,7 +46,9 @@ pub fn push_store(
     address: Operand,
     bytes: u8,
     a: Operand,
-) -> Result<(), Memory> {
+) -> Result<(), Memory>
+    ensures { OnOk result (steps.new ≡ steps.old ++ step.Store address bytes a ∷ []) }
+{
     steps.push(Step::Store(address, bytes, a))?;
     Ok(())
 }
@@ -48,7 +59,9 @@ pub(crate) fn push_multiply(
     word: u32,
     a: Operand,
     b: Operand,
-) -> Result<(), Memory> {
+) -> Result<(), Memory>
+    ensures { OnOk result (steps.new ≡ steps.old ++ step.Multiply word a b ∷ []) }
+{
     steps.push(Step::Multiply(word, a, b))?;
     Ok(())
 }
@@ -59,7 +72,9 @@ pub(crate) fn push_divide(
     word: u32,
     a: Operand,
     b: Operand,
-) -> Result<(), Memory> {
+) -> Result<(), Memory>
+    ensures { OnOk result (steps.new ≡ steps.old ++ step.Divide word a b ∷ []) }
+{
     steps.push(Step::Divide(word, a, b))?;
     Ok(())
 }
@@ -70,7 +85,9 @@ pub(crate) fn push_remainder(
     word: u32,
     a: Operand,
     b: Operand,
-) -> Result<(), Memory> {
+) -> Result<(), Memory>
+    ensures { OnOk result (steps.new ≡ steps.old ++ step.Remainder word a b ∷ []) }
+{
     steps.push(Step::Remainder(word, a, b))?;
     Ok(())
 }

@@ -1,0 +1,2 @@
+pub mod MapLines
+pub mod Pieces

@@ -1,0 +1,11 @@
+//! What the equations and predicates of a definition force, and which of its predicates follow.
+#![tactic(auto)]
+
+mod forcing;
+mod renewed;
+mod round;
+mod solver;
+#[cfg(test)]
+mod tests;
+
+pub use solver::{Settled, Solver};
