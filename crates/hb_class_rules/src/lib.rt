@@ -6,7 +6,5 @@ mod cycles;
 mod faults;
 mod overlap;
 mod supers;
-#[cfg(test)]
-mod tests;
 
 pub use faults::{ClassFault, ClassRule, first_class_fault};

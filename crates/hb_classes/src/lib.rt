@@ -8,8 +8,6 @@ mod index;
 mod searching;
 mod selection;
 mod table;
-#[cfg(test)]
-mod tests;
 
 pub use facts::{bit_width, bytes_of_cell, content, is_fact, number};
 pub use goals::{Goal, Goals, Rule, Span};

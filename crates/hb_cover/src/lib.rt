@@ -12,5 +12,3 @@ mod stepping;
 
 pub use cover::{Covered, covers};
 
-#[cfg(test)]
-mod tests;

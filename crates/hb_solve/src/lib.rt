@@ -5,7 +5,5 @@ mod forcing;
 mod renewed;
 mod round;
 mod solver;
-#[cfg(test)]
-mod tests;
 
 pub use solver::{Settled, Solver};

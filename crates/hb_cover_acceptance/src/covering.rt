@@ -1,6 +1,6 @@
 ghost use Rattle.std.specs.Prelude.{◌≤◌, ◌<◌, ◌^◌};
 
-use crate::{Covered, covers};
+use hb_cover::{Covered, covers};
 use hb_base::{List, Memory, Text};
 use hb_bits::{Cube, Pattern};
 use hb_spelling::{PatternForm, Patterns, Spelling, Spellings, WILD, value_text};

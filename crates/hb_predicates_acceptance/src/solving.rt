@@ -1,4 +1,4 @@
-use crate::{Settled, Solver};
+use hb_solve::{Settled, Solver};
 use hb_base::{List, Memory, Place};
 use hb_classes::{
     Class, ClassDecl, ClassTable, DeclaredType, Dependency, Field, InstanceDecl, InstanceIndex,

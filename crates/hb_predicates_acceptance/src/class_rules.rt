@@ -1,4 +1,4 @@
-use crate::{ClassFault, ClassRule, first_class_fault};
+use hb_class_rules::{ClassFault, ClassRule, first_class_fault};
 use hb_base::{List, Memory, Place};
 use hb_classes::{
     Class, ClassDecl, ClassTable, DeclaredType, Dependency, Field, InstanceDecl, Predicate,

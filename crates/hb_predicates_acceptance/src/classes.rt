@@ -1,4 +1,4 @@
-use crate::{
+use hb_classes::{
     Choices, Class, ClassDecl, ClassTable, DeclaredType, Field, InstanceDecl, InstanceIndex,
     Predicate, forced_by_selection, ground, holds, is_selected,
 };

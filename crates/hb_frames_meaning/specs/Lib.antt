@@ -1,0 +1,4 @@
+pub mod State
+pub mod Meaning
+pub mod Rules
+pub mod Weights

@@ -1,0 +1,2 @@
+//! What flat programs with frames show, the rules that they keep, and what their counts weigh. The definitions are in `specs/`.
+#![tactic(auto)]
