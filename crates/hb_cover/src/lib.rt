@@ -11,4 +11,3 @@ mod search;
 mod stepping;
 
 pub use cover::{Covered, covers};
-
