@@ -1,0 +1,9 @@
+pub mod Values
+pub mod Events
+pub mod Primitives
+pub mod Operations
+pub mod States
+pub mod Labels
+pub mod Accesses
+pub mod Meaning
+pub mod Rules
