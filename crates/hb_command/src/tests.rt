@@ -115,16 +115,3 @@ fn these_words_are_no_commands(rt: HostRuntime) -> Result<(), Fail> {
     }
     Ok(())
 }
-
-#[test]
-fn a_sample_may_name_an_image(rt: HostRuntime) -> Result<(), Fail> {
-    let alloc = rt.alloc();
-    let words = words_of(alloc, b"sample 12 f -")?;
-    let Some(Command::Sample(number, file, Some(image))) = read_command(alloc, &words)? else {
-        return Err(Fail::from("no command"));
-    };
-    assert_eq!(rt; number, 12);
-    assert_eq!(rt; file.as_slice(), b"f".as_slice());
-    assert_eq!(rt; image.as_slice(), b"-".as_slice());
-    Ok(())
-}
