@@ -4,6 +4,8 @@
 mod description;
 mod layouts;
 mod order;
+#[cfg(test)]
+mod tests;
 mod widths;
 
 pub use layouts::{Layouts, lay_out};
